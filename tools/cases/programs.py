@@ -3,7 +3,7 @@ and fatyngu_program, and what is beside the examples.
 
     tools/make_cases programs
 
-The report of a script is that of tools/cases/tileset_rows.py. The script of examples/places.mbtiles is worked out by tools/models/mbtiles.py, and its tiles and its names are what
+The report of a script is that of tools/cases/archives_again.py. The script of examples/places.mbtiles is worked out by tools/models/mbtiles.py, and its tiles and its names are what
 mbtiles_to_pmtiles_program has to find in the same file.
 """
 import os
@@ -11,9 +11,11 @@ import shutil
 import sqlite3
 
 from cases.archive_names import degrees
+from cases.archives_again import adds_of, archive, report_of
 from cases.made_cases import DESCRIBED
 from cases.rows import TOP, Rows
-from cases.tileset_rows import ONE_TILE, adds_of, archive, options_said, report_of, told
+from cases.streamed_sets import options_said, told
+from cases.tileset_runs import ONE_TILE
 from models import pmtiles
 from models import readers
 from models.mbtiles import script_of

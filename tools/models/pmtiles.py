@@ -1,6 +1,6 @@
 # PMTiles version 3 by its definition, in plain python: ids, varints, directories, headers, and archives that are
 # written. The scripts beside it compute from it what the rows programs must print. Nothing here is taken from a
-# program of this repository. tools/cases/tileset_rows.py lays ids and archives out a second time, and holds each
+# program of this repository. tools/cases/archives_again.py lays ids and archives out a second time, and holds each
 # archive against the one that is made here.
 import functools
 import struct

@@ -43,6 +43,18 @@ ReadExactCauses before now n (Err (Short asked got)) = asked ≢ got
 ReadExactCauses before now n (Err Fault) = Rose before now
 ReadExactCauses before now n (Err OutOfMemory) = Unit {0}
 
+-- an error leaves the count of faults as it is, but for a fault and want of memory
+abbrev pub StandsAtError : ℕ → ℕ → ReadFault → Type 0
+StandsAtError before now Fault = Unit {0}
+StandsAtError before now PastEnd = now ≡ before
+StandsAtError before now (Short asked got) = now ≡ before
+StandsAtError before now OutOfMemory = Unit {0}
+
+-- a read leaves the count of faults as it is, but for a fault and want of memory
+abbrev pub FaultsStand : {A : Type 0} → ℕ → ℕ → Result A ReadFault → Type 0
+FaultsStand before now (Ok x) = now ≡ before
+FaultsStand before now (Err e) = StandsAtError before now e
+
 -- an answer has the version text of the read with this number
 abbrev pub HasVersion : Result BackendResponse ReadFault → ℕ → (ℕ → Option (List ℕ)) → Type 0
 HasVersion result number text = IfOk result (λ r. r.data_version_string ≡ text number)

@@ -2,7 +2,7 @@
 ghost use Rattle.std.specs.Prelude.{◌≡◌, ℕ, List, IfSome, Some, None};
 ghost use Rattle.byte_media.specs.Common.{Grew, Option};
 ghost use Rattle.byte_media.specs.Kept.{ReadsOnly};
-ghost use Rattle.byte_media.specs.Media.{ReadAnswers, ReadExactAnswers, HasVersion, ReadCauses, ReadExactCauses};
+ghost use Rattle.byte_media.specs.Media.{FaultsStand, ReadAnswers, ReadExactAnswers, HasVersion, ReadCauses, ReadExactCauses};
 
 use base_values::{OutOfMemory, TextVal};
 use bytes::Bytes;
@@ -67,7 +67,8 @@ pub trait Backend {
     /// The version text of each read by its number, where the object tells them.
     ghost versions: { Self → Option (ℕ → Option (List ℕ)) };
 
-    /// How often the object has failed. It never falls.
+    /// How often the object has failed. It never falls. A call that answers Ok leaves it as it was, and so does a read
+    /// that answers `PastEnd` or `Short`.
     ghost faults: { Self → ℕ };
 
     /// How many reads there were.
@@ -85,6 +86,7 @@ pub trait Backend {
     ) -> Result<BackendResponse, ReadFault>
         ensures answer { IfSome (told self.old) (λ bytes. ReadAnswers bytes offset length result) }
         ensures causes { ReadCauses (faults self.old) (faults self.new) offset length result }
+        ensures still { FaultsStand (faults self.old) (faults self.new) result }
         ensures version { IfSome (versions self.old) (HasVersion result (reads self.new)) }
         ensures reads { Grew (reads self.old) (reads self.new) 1 }
         ensures kept { ReadsOnly told versions faults steady self.old self.new };
@@ -99,6 +101,7 @@ pub trait Backend {
         ensures answer { IfSome (told self.old)
             (λ bytes. ReadExactAnswers bytes offset length result) }
         ensures causes { ReadExactCauses (faults self.old) (faults self.new) length result }
+        ensures still { FaultsStand (faults self.old) (faults self.new) result }
         ensures version { IfSome (versions self.old) (HasVersion result (reads self.new)) }
         ensures reads { Grew (reads self.old) (reads self.new) 1 }
         ensures kept { ReadsOnly told versions faults steady self.old self.new };

@@ -1,7 +1,7 @@
 // A backend over a file of the system.
 ghost use Rattle.std.specs.Prelude.{◌≡◌, ◌≤◌, ◌+◌, IfOk, IfErr, IsErrOf, None, length, vec_len};
 ghost use Rattle.byte_media.specs.Common.{Grew, Rose};
-ghost use Rattle.byte_media.specs.Media.{IsPartFault};
+ghost use Rattle.byte_media.specs.Media.{FaultsStand, IsPartFault};
 
 use crate::{Backend, BackendResponse, MediumFault, ReadFault};
 use bytes::Bytes;
@@ -52,6 +52,7 @@ impl FileBackend {
         ensures bound { IfOk result (λ bytes. vec_len bytes ≤ most) }
         ensures fails { IfErr result (IsPartFault (offset + least)) }
         ensures cause { IsErrOf result ReadFault.Fault → Rose self.old.faults self.new.faults }
+        ensures still { FaultsStand self.old.faults self.new.faults result }
         ensures faults { self.old.faults ≤ self.new.faults }
         ensures reads { Grew self.old.reads self.new.reads 1 }
     {

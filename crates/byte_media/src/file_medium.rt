@@ -56,6 +56,9 @@ impl FileMedium {
         ensures cause { OnErr result
             (Rose (⟦<FileMedium as Backend>⟧.faults self.old)
             (⟦<FileMedium as Backend>⟧.faults self.new)) }
+        ensures still { OnOk result
+            (⟦<FileMedium as Backend>⟧.faults self.new
+            ≡ ⟦<FileMedium as Backend>⟧.faults self.old) }
         ensures faults { ⟦<FileMedium as Backend>⟧.faults self.old
             ≤ ⟦<FileMedium as Backend>⟧.faults self.new }
         ensures reads { ⟦<FileMedium as Backend>⟧.reads self.new
@@ -136,6 +139,7 @@ impl FileMedium {
     fn begin_read(&mut self, offset: u64, count: u64) -> Result<(), ReadFault>
         ensures fault { IfErr result (λ fault. fault ≡ ReadFault.Fault) }
         ensures cause { OnErr result (Rose self.old.backend.faults self.new.backend.faults) }
+        ensures still { OnOk result (self.new.backend.faults ≡ self.old.backend.faults) }
         ensures faults { self.old.backend.faults ≤ self.new.backend.faults }
         ensures done { OnOk result (self.new.backend.reads ≡ self.old.backend.reads) }
         ensures hindered { OnErr result (Grew self.old.backend.reads self.new.backend.reads 1) }

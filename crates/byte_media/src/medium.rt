@@ -1,5 +1,5 @@
 // What is written to, and read back from: bytes at places.
-ghost use Rattle.std.specs.Prelude.{◌≡◌, ◌<◌, ◌^◌, IfSome, OnErr, IsErrOf};
+ghost use Rattle.std.specs.Prelude.{◌≡◌, ◌<◌, ◌^◌, IfSome, OnErr, OnOk, IsErrOf};
 ghost use Rattle.byte_media.specs.Common.{Rose};
 ghost use Rattle.byte_media.specs.Kept.{KeepsMedium, ReadsOnly};
 ghost use Rattle.byte_media.specs.Media.{IsWithin, EndsBelow, WriteLeaves, IsLength};
@@ -30,6 +30,7 @@ pub trait Medium: Backend {
     fn len(&mut self) -> Result<u64, MediumFault>
         ensures answer { IfSome (Self.told self.old) (λ bytes. IsLength bytes result) }
         ensures cause { OnErr result (Rose (Self.faults self.old) (Self.faults self.new)) }
+        ensures still { OnOk result (Self.faults self.new ≡ Self.faults self.old) }
         ensures reads { Self.reads self.new ≡ Self.reads self.old }
         ensures kept { ReadsOnly Self.told Self.versions Self.faults Self.steady
             self.old self.new };
@@ -42,6 +43,7 @@ pub trait Medium: Backend {
             (Self.told self.old) (Self.told self.new) }
         ensures cause { IsErrOf result WriteFault.Fault
             → Rose (Self.faults self.old) (Self.faults self.new) }
+        ensures still { OnOk result (Self.faults self.new ≡ Self.faults self.old) }
         ensures reads { Self.reads self.new ≡ Self.reads self.old }
         ensures kept { KeepsMedium Self.told Self.versions Self.reads Self.faults Self.steady
             self.old self.new };

@@ -1,5 +1,5 @@
 -- how long an input is, and how much of it was taken
-use Rattle.std.specs.Prelude.{ℕ, ◌+◌, ◌-◌, ◌^◌, ◌≤◌, ◌<◌, List, length, IfSome, Vec, Ok, Err}
+use Rattle.std.specs.Prelude.{ℕ, ◌≡◌, ◌+◌, ◌-◌, ◌^◌, ◌≤◌, ◌<◌, List, length, IfSome, Vec, Ok, Err}
 use Rattle.std.specs.declared.alloc.Global.{Global}
 use Rattle.byte_streams.specs.Common.{Grew, Option, Result}
 use Rattle.byte_streams.specs.Streams.{Loses}
@@ -21,6 +21,13 @@ StopCounts before now OutOfMemory = now ≤ before + MAX_INPUT
 abbrev pub InputCounts : ℕ → ℕ → Result (Vec ℕ Global) InputError → Type 0
 InputCounts before now (Ok bytes) = Grew before now (length bytes.items) × (length bytes.items ≤ MAX_INPUT)
 InputCounts before now (Err e) = StopCounts before now e
+
+-- the count of faults stands, but for a fault and want of memory
+abbrev pub FaultsStand : {A : Type 0} → ℕ → ℕ → Result A InputError → Type 0
+FaultsStand before now (Ok x) = now ≡ before
+FaultsStand before now (Err TooLong) = now ≡ before
+FaultsStand before now (Err Fault) = Unit {0}
+FaultsStand before now (Err OutOfMemory) = Unit {0}
 
 -- All that was left was taken: these bytes, not too many, by what was left and by the count.
 pub record TakesAll (took : List ℕ → Type 0) (left rest : Option (List ℕ)) (before now : ℕ) : Type 0 where

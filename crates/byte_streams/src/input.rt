@@ -1,7 +1,7 @@
 // Reading all of the input.
-ghost use Rattle.std.specs.Prelude.{◌<◌, [], length, OnOk, IfErr, IfOk, IfSome, IsErrOf};
+ghost use Rattle.std.specs.Prelude.{◌≡◌, ◌<◌, [], length, OnOk, IfErr, IfOk, IfSome, IsErrOf};
 ghost use Rattle.byte_streams.specs.Common.{Rose};
-ghost use Rattle.byte_streams.specs.Input.{InputCounts, StopCounts, TakesAll};
+ghost use Rattle.byte_streams.specs.Input.{FaultsStand, InputCounts, StopCounts, TakesAll};
 ghost use Rattle.byte_streams.specs.Kept.{KeepsSource};
 ghost use Rattle.byte_streams.specs.Streams.{Loses, IsAtEnd};
 
@@ -55,6 +55,7 @@ pub fn take_input<S: Source, T: InputTaker>(source: &mut S, taker: &mut T) -> Re
         → IfSome (S.left source.old) (λ left. MAX_INPUT < length left) }
     ensures fault { IsErrOf result InputError.Fault
         → Rose (S.faults source.old) (S.faults source.new) }
+    ensures still { FaultsStand (S.faults source.old) (S.faults source.new) result }
     ensures kept { KeepsSource S.left S.taken S.faults S.steady source.old source.new }
 {
     let mut buffer = [0u8; CHUNK];
@@ -85,6 +86,7 @@ pub fn read_input<S: Source>(alloc: Global, source: &mut S) -> Result<Vec<u8>, I
         → IfSome (S.left source.old) (λ left. MAX_INPUT < length left) }
     ensures fault { IsErrOf result InputError.Fault
         → Rose (S.faults source.old) (S.faults source.new) }
+    ensures still { FaultsStand (S.faults source.old) (S.faults source.new) result }
     ensures kept { KeepsSource S.left S.taken S.faults S.steady source.old source.new }
 {
     let mut bytes = Vec::new(alloc);

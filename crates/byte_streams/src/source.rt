@@ -1,5 +1,5 @@
 // Where bytes come from.
-ghost use Rattle.std.specs.Prelude.{ℕ, List, OnErr};
+ghost use Rattle.std.specs.Prelude.{◌≡◌, ℕ, List, OnErr, OnOk};
 ghost use Rattle.byte_streams.specs.Common.{Option, Rose};
 ghost use Rattle.byte_streams.specs.Kept.{KeepsSource};
 ghost use Rattle.byte_streams.specs.Streams.{ReadTakes, CountsRead};
@@ -16,7 +16,7 @@ pub trait Source {
     /// The bytes that are left, where the source tells them.
     ghost left: { Self → Option (List ℕ) };
 
-    /// How often the source has failed. It never falls.
+    /// How often the source has failed. It never falls, and stands where a call answers Ok.
     ghost faults: { Self → ℕ };
 
     /// How many bytes were taken.
@@ -29,6 +29,7 @@ pub trait Source {
     fn read(&mut self, buffer: &mut [u8]) -> Result<usize, SourceFault>
         ensures takes { ReadTakes (left self.old) (left self.new) result buffer.new }
         ensures cause { OnErr result (Rose (faults self.old) (faults self.new)) }
+        ensures still { OnOk result (faults self.new ≡ faults self.old) }
         ensures counts { CountsRead (taken self.old) (taken self.new) result }
         ensures kept { KeepsSource left taken faults steady self.old self.new };
 }

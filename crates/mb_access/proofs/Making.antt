@@ -65,7 +65,8 @@ module _ {M : Type 1} (𝓤 : Ura M) (𝓛 : Logic 𝓤) (𝓜 : Model 𝓤 𝓛
         (sep 𝓤 (fact 𝓤 (IfOk r (λ d. (k.store d).ghost_name ≡ m.ghost_name)))
         (sep 𝓤 (fact 𝓤 (gb.tells m.now ≡ true → IfOk r (λ d. AreAllLeft (gb.told m.now) (gb.told (k.store d).now) (k.state d))))
         (sep 𝓤 (fact 𝓤 (IfOk r (λ d. left_at_most (k.state d) ≡ len (set_of (k.state d)).tiles)))
-        (fact 𝓤 (IfOk r (λ d. ReadsOnly gb.told gb.tells gb.faults gb.steady m.now (k.store d).now))))))));
+        (sep 𝓤 (fact 𝓤 (IfOk r (λ d. ReadsOnly gb.told gb.tells gb.faults gb.steady m.now (k.store d).now)))
+        (fact 𝓤 (IfOk r (λ d. gb.faults (k.store d).now ≡ gb.faults m.now)))))))));
   }
 
   abbrev Store : Lifetime → Ty
@@ -168,14 +169,15 @@ module _ {M : Type 1} (𝓤 : Ura M) (𝓛 : Logic 𝓤) (𝓜 : Model 𝓤 𝓛
       (beside 𝓛 (rests_ok 𝓛 R m (λ (t : W.Denot). (k.store t).ghost_name) PE.Denot (LeftByStart {A = W.Denot} gb.told gb.tells gb.faults gb.steady m.now (Ok d)) d (of (λ b s. b.ghost_name ≡ γ) refl))
       (holds 𝓛 (subst (IsBegun Ok (gb.tells m.now) (gb.told m.now)) (sym (k.loads mr x)) answer) (holds 𝓛 (λ steady below same. is_ok WS.Denot W.Denot d errors.StoreFault same)
       (holds 𝓛 (of (λ b s. b.ghost_name ≡ γ) refl) (holds 𝓛 (λ tells. of (λ b s. AreAllLeft (gb.told m.now) (gb.told b.now) s) (subst (λ (t : Tables). AreAllLeft (gb.told m.now) t x) (sym kept.told) (items tells)))
-      (holds 𝓛 (of (λ b s. left_at_most s ≡ len (set_of s).tiles) most) (fact_i 𝓤 _ (emp 𝓤) (of (λ b s. ReadsOnly gb.told gb.tells gb.faults gb.steady m.now b.now) kept)))))))) $
+      (holds 𝓛 (of (λ b s. left_at_most s ≡ len (set_of s).tiles) most) (holds 𝓛 (of (λ b s. ReadsOnly gb.told gb.tells gb.faults gb.steady m.now b.now) kept)
+      (fact_i 𝓤 _ (emp 𝓤) (of (λ b s. gb.faults b.now ≡ gb.faults m.now) fault.still))))))))) $
       nothing ! $ nothing ! $ fjoin ! $ nothing ! $ fjoin ! $ move ! (3 ∷ 0 ∷ 2 ∷ 1 ∷ []) $ by ! (leaves 𝓛 En hs c z rv (Ok d) (tt, (tt, tt)) (tt, (tt, tt))))))))))
       (λ error is. rewrite ! 3 (λ (r' : Made.Denot). ‵ (Made.own_val r' (v ∷ []))) is refl $ rewrite ! 2 (λ (r' : Made.Denot). raw ((sc κs' a').ensures tt r' (at_exit sEn κs' a' ws))) is refl $ move ! (2 ∷ []) $
       told ! (λ answer. told ! (λ items. told ! (λ most. told ! (λ kept. heard ! _ (λ fault. move ! (2 ∷ []) $
       err_out WS PE error-laws.the_row_laws ! error v (λ u ev good.
       let rv : Val = live 1 (of_list (u ∷ [])) in let before : ℕ = gb.faults m.now in let now : ℕ = gb.faults w in
       let Leaves : Y.Denot → Type 0 = LeftByStart {A = W.Denot} gb.told gb.tells gb.faults gb.steady m.now (Err error) in
-      let left : Leaves w = record { kept = kept; fault = fault_again WS.Denot W.Denot error fault } in
+      let left : Leaves w = record { kept = kept; fault = record { rose = fault_again WS.Denot W.Denot error fault.rose; still = tt } } in
       lands_as ! ev refl (and_tt _ good.0, (record { fits = lit< tt }, (good.1, tt))) $
       first ! $ switches_on ! (get_tag ! (vrt ! refl (fld ! refl (stop !))) (whole !)) $ exec ! 𝓣.C 𝓣.Λ Ev (arm_body 1 (head (after 2 fn.body))) (then_runs 𝓛 𝓣.C 𝓣.Λ Ev (after 3 fn.body) (at_ret Ev Post)) $
       sets ! (of_opd ! (get_in ! (vrt ! refl (fld ! refl (stop !))) (in_variant ! 1 0 refl refl (whole !)))) refl good $ sets ! (of_opd ! (get ! refl)) refl good $
@@ -187,6 +189,6 @@ module _ {M : Type 1} (𝓤 : Ura M) (𝓛 : Logic 𝓤) (𝓜 : Model 𝓤 𝓛
       use1 𝓛 (‵ (fres γ (R.coded.code w))) (𝓛.names.obs-res γ (R.coded.code w)) $ move ! (1 ∷ []) $ drop ! $
       use1 𝓛 (raw ((c κs a).ensures tt (Err error) (at_exit En κs a (tt, (tt, tt)))))
       (beside 𝓛 (rests_err 𝓛 R m (λ (t : W.Denot). (k.store t).ghost_name) PE.Denot Leaves error w left)
-      (holds 𝓛 (subst (IsBegun Ok (gb.tells m.now) (gb.told m.now)) (sym (k.refuses error)) answer) (holds 𝓛 (λ steady below same. no_fault WS.Denot W.Denot before now error fault below (kept.calm steady) same)
-      (holds 𝓛 tt (holds 𝓛 (λ tells. tt) (holds 𝓛 tt (fact_i 𝓤 _ (emp 𝓤) tt))))))) $
+      (holds 𝓛 (subst (IsBegun Ok (gb.tells m.now) (gb.told m.now)) (sym (k.refuses error)) answer) (holds 𝓛 (λ steady below same. no_fault WS.Denot W.Denot before now error fault.rose below (kept.calm steady) same)
+      (holds 𝓛 tt (holds 𝓛 (λ tells. tt) (holds 𝓛 tt (holds 𝓛 tt (fact_i 𝓤 _ (emp 𝓤) tt)))))))) $
       nothing ! $ nothing ! $ fjoin ! $ nothing ! $ fjoin ! $ move ! (3 ∷ 0 ∷ 2 ∷ 1 ∷ []) $ by ! (leaves 𝓛 En hs c z rv (Err error) (tt, (tt, tt)) (tt, (tt, tt)))))))))))))))))

@@ -29,14 +29,16 @@ module _ {S : Type 0} (holds : S → Tables) (shows : S → Bool) (failed : S �
     pub set : now.set ≡ first.set
     pub left : now.left ≤ first.left
     pub kept : ReadsOnly holds shows failed unfailing before after
+    pub still : failed after ≡ failed before
 
   -- the page has a row again
-  pub refilled : (first s u : StreamState) (before mid after : S) → Streaming first s before mid → (shows mid ≡ true → rows_left (holds mid) u ≡ rows_left (holds mid) s) → u.set ≡ s.set → u.left ≡ s.left → ReadsOnly holds shows failed unfailing mid after → Streaming first u before after
-  refilled first s u before mid after w rows set left kept = record {
+  pub refilled : (first s u : StreamState) (before mid after : S) → Streaming first s before mid → (shows mid ≡ true → rows_left (holds mid) u ≡ rows_left (holds mid) s) → u.set ≡ s.set → u.left ≡ s.left → ReadsOnly holds shows failed unfailing mid after → failed after ≡ failed mid → Streaming first u before after
+  refilled first s u before mid after w rows set left kept still = record {
     items = λ t. left_same (holds before) s u (subst (λ (x : Tables). rows_left x u ≡ rows_left x s) w.kept.told (rows (w.kept.tells ∙ t))) set left ∙ w.items t;
     set = set ∙ w.set;
     left = omega (arith, left, w.left);
     kept = reads_then before mid after w.kept kept;
+    still = still ∙ w.still;
   }
 
   -- the next tile

@@ -80,10 +80,11 @@ GivesTile items None rest = (items ≡ []) × (rest ≡ [])
 GivesTile items (Some (Ok e)) rest = items ≡ (place_at e.0, e.1) ∷ rest
 GivesTile items (Some (Err e)) rest = rest ≡ []
 
--- Whatever the store answers: an error is want of memory, or a fault where its count rose.
+-- Whatever the store answers: an error is want of memory, or a fault where its count rose; the count stands where no
+-- error comes.
 abbrev pub StreamCauses : {A : Type 0} → ℕ → ℕ → Option (Result A MbtError) → Type 0
-StreamCauses before now None = Unit {0}
-StreamCauses before now (Some (Ok x)) = Unit {0}
+StreamCauses before now None = now ≡ before
+StreamCauses before now (Some (Ok x)) = now ≡ before
 StreamCauses before now (Some (Err OutOfMemory)) = Unit {0}
 StreamCauses before now (Some (Err StoreFault)) = Rose before now
 StreamCauses before now (Some (Err e)) = ⊥

@@ -106,6 +106,7 @@ impl Mbtiles {
         ensures most { IfOk result (λ c. left_at_most c.state ≡ len (set_of c.state).tiles) }
         ensures kept { IfOk result
             (λ c. ReadsOnly S.told S.tells S.faults S.steady store.old c.store.now) }
+        ensures still { IfOk result (λ c. S.faults c.store.now ≡ S.faults store.old) }
     {
         streams::stream_coords(alloc, store)
     }
@@ -126,6 +127,7 @@ impl Mbtiles {
         ensures most { IfOk result (λ c. left_at_most c.state ≡ len (set_of c.state).tiles) }
         ensures kept { IfOk result
             (λ c. ReadsOnly S.told S.tells S.faults S.steady store.old c.store.now) }
+        ensures still { IfOk result (λ c. S.faults c.store.now ≡ S.faults store.old) }
     {
         streams::stream_tiles(alloc, store)
     }

@@ -1,6 +1,6 @@
 // A stream along the rows of a set: what it owns beside the store that it reads.
-ghost use Rattle.std.specs.Prelude.{◌≡◌, ◌<◌, ◌≤◌, ◌+◌, ◌-◌, ◌∷◌, [], IfOk, IfSome, IsErrOf, None, Ok, OnErr, OnOk, false, length, true};
-ghost use Rattle.mb_access.specs.Common.{contains_key, FaultsCounted, get, IsBegun, len, place_at, ReadsOnly, Rose, Tables};
+ghost use Rattle.std.specs.Prelude.{◌≡◌, ◌<◌, ◌≤◌, ◌+◌, ◌-◌, ◌∷◌, [], IfOk, IfSome, None, Ok, OnErr, OnOk, false, length, true};
+ghost use Rattle.mb_access.specs.Common.{contains_key, FaultsCounted, get, IsBegun, len, place_at, ReadsOnly, Tables};
 ghost use Rattle.mb_access.specs.StreamSteps.{AreAllLeft, GivesCoord, GivesIndex, GivesTile, IsRowOf, StreamCauses, is_tile_row, left_at_most, left_of, loaded_by, next_row, page_size, rows_left, set_of};
 
 use crate::finding::{coord_at, index_of, tile_copy};
@@ -108,8 +108,7 @@ impl StreamState {
         ensures set { self.new.set ≡ self.old.set }
         ensures left { self.new.left ≡ self.old.left }
         ensures kept { ReadsOnly S.told S.tells S.faults S.steady store.old store.new }
-        ensures fault { IsErrOf result StoreError.Fault
-            → Rose (S.faults store.old) (S.faults store.new) }
+        ensures fault { FaultsCounted S.faults store.old store.new result StoreError.Fault }
     {
         if self.at < self.page.len() {
             return Ok(true);

@@ -113,6 +113,7 @@ pub fn stream_coords<'s, S: TileStore>(alloc: Global, store: &'s mut S) -> MbtRe
     ensures most { IfOk result (λ c. left_at_most c.state ≡ len (set_of c.state).tiles) }
     ensures kept { IfOk result
         (λ c. ReadsOnly S.told S.tells S.faults S.steady store.old c.store.now) }
+    ensures still { IfOk result (λ c. S.faults c.store.now ≡ S.faults store.old) }
 {
     match StreamState::start(alloc, store) {
         Ok(state) => Ok(Coords { store, state }),
@@ -136,6 +137,7 @@ pub fn stream_tiles<'s, S: TileStore>(alloc: Global, store: &'s mut S) -> MbtRes
     ensures most { IfOk result (λ c. left_at_most c.state ≡ len (set_of c.state).tiles) }
     ensures kept { IfOk result
         (λ c. ReadsOnly S.told S.tells S.faults S.steady store.old c.store.now) }
+    ensures still { IfOk result (λ c. S.faults c.store.now ≡ S.faults store.old) }
 {
     match StreamState::start(alloc, store) {
         Ok(state) => Ok(Tiles { store, state }),

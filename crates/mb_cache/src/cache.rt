@@ -52,6 +52,7 @@ impl<'a, S: TileStore> MbtilesCache<'a, S> {
         ensures agrees { S.tells store.old ≡ true →
             IfOk result (λ c. Agrees (S.told c.store.now) c.state) }
         ensures kept { IfOk result (λ c. Keeps S.tells S.faults S.steady store.old c.store.now) }
+        ensures still { IfOk result (λ c. S.faults c.store.now ≡ S.faults store.old) }
         ensures own { IfErr result (λ e. (t : Tables) × OpensAs t (Err e)) }
     {
         match CacheState::open(alloc, store) {

@@ -14,6 +14,7 @@ pub use Rattle.mb_load.proofs.BegunLemmas.{begun_err, begun_free, begun_ok}
 pub use Rattle.mb_load.specs.Committing.{MakesChanges}
 pub use Rattle.mb_load.specs.LoadedFrom.{IsLoadedFrom, NamesAlgorithm}
 pub use Rattle.mb_loaded.specs.Held.{Held, nothing_edited}
+pub use Rattle.mb_store.proofs.FaultLemmas.{unasked}
 pub use Rattle.mb_tables.specs.declared.cell.Cell.{Cell}
 pub use Rattle.std.proofs.Common.{add-one, ap, arith, Bool, cond, drop, false, filter, fold, get_or, IfOk, length, List, map, max, min, None, not, Ok, Option, refl, replicate, Some, subst, suc}
 pub use Rattle.std.proofs.Common.{sum_by, sym, take, true, zero, ℕ, [], ◌++◌, ◌+◌, ◌-◌, ◌<◌, ◌==◌, ◌^◌, ◌||◌, ◌∙◌, ◌∷◌, ◌≡◌, ◌≤◌}

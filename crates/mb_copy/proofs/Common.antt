@@ -35,6 +35,7 @@ pub use Rattle.mb_load.specs.Loading.{Loads}
 pub use Rattle.mb_loaded.specs.Editable.{IsOnBoard}
 pub use Rattle.mb_loaded.specs.Edits.{with_value}
 pub use Rattle.mb_loaded.specs.Held.{Edited, nothing_edited}
+pub use Rattle.mb_store.proofs.FaultLemmas.{counted_then, still_anyway}
 pub use Rattle.mb_store.specs.Store.{IsSound, with_tables}
 pub use Rattle.mb_tables.proofs.TileLemmas.{places_total}
 pub use Rattle.mb_tables.specs.Kind.{tile_table}

@@ -1,5 +1,5 @@
 // Copying one store into another.
-ghost use Rattle.std.specs.Prelude.{◌≡◌, ◌⊎◌, [], IfErr, IfOk, OnErr, OnOk, false, true};
+ghost use Rattle.std.specs.Prelude.{◌≡◌, ◌⊎◌, [], IfErr, IfOk, IsErrOf, OnErr, OnOk, false, true};
 ghost use Rattle.mb_copy.specs.Common.{Answers, FaultsCounted, fresh, IsBegun, Keeps, ReadsOnly, refused_by, Rose, Tests};
 ghost use Rattle.mb_copy.specs.Clearing.{IsSource};
 ghost use Rattle.mb_copy.specs.CopyOrder.{made_state, may_copy, may_copy_over, over_answer};
@@ -167,7 +167,7 @@ impl MbtilesCopier {
     /// memory or the store was wanting. After Ok it loads again as the set with the copies, and all rows under
     /// other keys than those that were put are as before, in their order; the rows are one commit. A store that
     /// tells nothing is answered as is due of some tables. `StoreFault` comes only where the count of faults of
-    /// one of the two stores rose.
+    /// one of the two stores rose, and at Ok both counts stand.
     pub fn run<S: TileStore, D: TileStore>(
         &self,
         alloc: Global,
@@ -184,8 +184,11 @@ impl MbtilesCopier {
             (D.told dst.new)) }
         ensures source_kept { ReadsOnly S.told S.tells S.faults S.steady src.old src.new }
         ensures kept { Keeps D.tells D.faults D.steady dst.old dst.new }
-        ensures fault { FaultsCounted S.faults src.old src.new result MbtError.StoreFault
+        ensures fault { IsErrOf result MbtError.StoreFault
+            → Rose (S.faults src.old) (S.faults src.new)
             ⊎ Rose (D.faults dst.old) (D.faults dst.new) }
+        ensures source_still { OnOk result (S.faults src.new ≡ S.faults src.old) }
+        ensures still { OnOk result (D.faults dst.new ≡ D.faults dst.old) }
     {
         let source = load(alloc, src)?;
         test_valid(alloc, self.validate, &source)?;

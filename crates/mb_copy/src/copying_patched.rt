@@ -1,5 +1,5 @@
 // Copying one store into another with a patch.
-ghost use Rattle.std.specs.Prelude.{◌≡◌, ◌⊎◌, [], IfErr, OnOk, false, true};
+ghost use Rattle.std.specs.Prelude.{◌≡◌, ◌⊎◌, [], IfErr, IsErrOf, OnOk, false, true};
 ghost use Rattle.mb_copy.specs.Common.{AllOnBoard, Answers, FaultsCounted, Keeps, ReadsOnly, refused_by, Rose};
 ghost use Rattle.mb_copy.specs.Clearing.{IsSource};
 ghost use Rattle.mb_copy.specs.Copying.{IsLeft, IsLeftBy};
@@ -100,7 +100,7 @@ impl MbtilesCopier {
     /// The source and the patch are only read. Refused, the destination holds what it held; or only its tables were
     /// made, where memory or the store was wanting. After Ok it loads again as the copy; the rows are one commit. A
     /// store that tells nothing is answered as is due of some tables. `StoreFault` comes only where the count of faults
-    /// of one of the three stores rose.
+    /// of one of the three stores rose, and at Ok all three counts stand.
     pub fn run_with_patch<S: TileStore, D: TileStore, P: TileStore>(
         &self,
         alloc: Global,
@@ -119,9 +119,13 @@ impl MbtilesCopier {
         ensures source_kept { ReadsOnly S.told S.tells S.faults S.steady src.old src.new }
         ensures patch_kept { ReadsOnly P.told P.tells P.faults P.steady patch.old patch.new }
         ensures kept { Keeps D.tells D.faults D.steady dst.old dst.new }
-        ensures fault { FaultsCounted S.faults src.old src.new result MbtError.StoreFault
+        ensures fault { IsErrOf result MbtError.StoreFault
+            → Rose (S.faults src.old) (S.faults src.new)
             ⊎ (Rose (D.faults dst.old) (D.faults dst.new)
             ⊎ Rose (P.faults patch.old) (P.faults patch.new)) }
+        ensures source_still { OnOk result (S.faults src.new ≡ S.faults src.old) }
+        ensures patch_still { OnOk result (P.faults patch.new ≡ P.faults patch.old) }
+        ensures still { OnOk result (D.faults dst.new ≡ D.faults dst.old) }
     {
         let other = load(alloc, patch)?;
         test_patch(alloc, self, &other)?;

@@ -1,6 +1,6 @@
 // Applying a patch to a store.
-ghost use Rattle.mb_store.specs.Kept.{FaultsCounted, Keeps, ReadsOnly};
-ghost use Rattle.std.specs.Prelude.{◌≡◌, ◌⊎◌, true, OnOk, OnErr};
+ghost use Rattle.mb_store.specs.Kept.{Keeps, ReadsOnly};
+ghost use Rattle.std.specs.Prelude.{◌≡◌, ◌⊎◌, true, IsErrOf, OnOk, OnErr};
 ghost use Rattle.mb_edit.specs.Applying.{IsAnsweredBy, IsAppliedBy};
 ghost use Rattle.base_values.specs.Counts.{Rose};
 
@@ -16,7 +16,7 @@ use std::alloc::Global;
 /// set. Rows of places that the patch doesn't name stay as they were, also stored digests; rows of bytes that it puts
 /// carry the digest of these, where the layout has one. A store that tells nothing is answered as tables are that its
 /// answers could be of, at Ok too: a patch that tells its tables then loads and passes its tests. `StoreFault` comes
-/// only where the count of faults of one of the two stores rose.
+/// only where the count of faults of one of the two stores rose, and at Ok both counts stand.
 pub fn apply_patch<S: TileStore, P: TileStore>(
     alloc: Global,
     base: &mut S,
@@ -31,8 +31,11 @@ pub fn apply_patch<S: TileStore, P: TileStore>(
     ensures refused { OnErr result (S.told base.new ≡ S.told base.old) }
     ensures patch_kept { ReadsOnly P.told P.tells P.faults P.steady patch.old patch.new }
     ensures kept { Keeps S.tells S.faults S.steady base.old base.new }
-    ensures fault { FaultsCounted S.faults base.old base.new result MbtError.StoreFault
+    ensures fault { IsErrOf result MbtError.StoreFault
+        → Rose (S.faults base.old) (S.faults base.new)
         ⊎ Rose (P.faults patch.old) (P.faults patch.new) }
+    ensures patch_still { OnOk result (P.faults patch.new ≡ P.faults patch.old) }
+    ensures still { OnOk result (S.faults base.new ≡ S.faults base.old) }
 {
     let set = load(alloc, base)?;
     let other = load(alloc, patch)?;

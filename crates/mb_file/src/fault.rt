@@ -1,5 +1,5 @@
 // Why a call of an opened set is refused.
-ghost use Rattle.std.specs.Prelude.{◌≡◌, ◌≤◌, IsErrOf};
+ghost use Rattle.std.specs.Prelude.{◌≡◌, ◌≤◌, IsErrOf, OnOk};
 ghost use Rattle.base_values.specs.Counts.{Rose};
 ghost use Rattle.mb_file.specs.Faults.{IsCounted};
 
@@ -116,6 +116,7 @@ impl Faults {
         ensures counted { IsCounted answer self.old self.new result }
         ensures later { self.old.count ≤ self.new.count }
         ensures fault { IsErrOf result StoreError.Fault → Rose self.old.count self.new.count }
+        ensures still { OnOk result (self.new.count ≡ self.old.count) }
     {
         match answer {
             Ok(value) => Ok(value),

@@ -1,6 +1,6 @@
 // A set of a file as a store.
 ghost use Rattle.std.specs.Prelude.{◌≡◌, ◌≤◌, [], false, true, All, Err, IfOk, IfSome, IsErrOf, length};
-ghost use Rattle.base_values.specs.Counts.{Rose};
+ghost use Rattle.mb_store.specs.Kept.{FaultsCounted};
 ghost use Rattle.mb_tables.specs.Key.{has_key};
 ghost use Rattle.mb_tables.specs.Schema.{set_tables};
 ghost use Rattle.mb_tables.specs.Table.{width};
@@ -198,8 +198,8 @@ impl<D: Disk> TileStore for FileSet<D> {
             (λ tables. tables.items ≡ set_tables self.old.layout) }
         ensures layout { self.new.layout ≡ self.old.layout }
         ensures faults { self.old.faults.count ≤ self.new.faults.count }
-        ensures fault { IsErrOf result StoreError.Fault →
-            Rose self.old.faults.count self.new.faults.count }
+        ensures fault { FaultsCounted (λ s. s.faults.count) self.old self.new result
+            StoreError.Fault }
     {
         Ok(set_tables(alloc, self.layout)?)
     }
@@ -235,8 +235,8 @@ impl<D: Disk> TileStore for FileSet<D> {
         ensures keyed { IfOk result
             (λ row. IfSome row (λ row. has_key table key.now row ≡ true)) }
         ensures faults { self.old.faults.count ≤ self.new.faults.count }
-        ensures fault { IsErrOf result StoreError.Fault →
-            Rose self.old.faults.count self.new.faults.count }
+        ensures fault { FaultsCounted (λ s. s.faults.count) self.old self.new result
+            StoreError.Fault }
     {
         let answer = self.found(alloc, table, key);
         self.faults.counted(answer)
@@ -246,8 +246,8 @@ impl<D: Disk> TileStore for FileSet<D> {
     fn create(&mut self, _alloc: Global, _tables: &[TableDesc]) -> Result<(), StoreError>
         ensures refused { result ≡ Err StoreError.Fault }
         ensures faults { self.old.faults.count ≤ self.new.faults.count }
-        ensures fault { IsErrOf result StoreError.Fault →
-            Rose self.old.faults.count self.new.faults.count }
+        ensures fault { FaultsCounted (λ s. s.faults.count) self.old self.new result
+            StoreError.Fault }
     {
         self.faults.counted(Err(FileFault::ReadOnly))
     }
@@ -256,8 +256,8 @@ impl<D: Disk> TileStore for FileSet<D> {
     fn commit(&mut self, _alloc: Global, _changes: &Changes) -> Result<(), StoreError>
         ensures refused { result ≡ Err StoreError.Fault }
         ensures faults { self.old.faults.count ≤ self.new.faults.count }
-        ensures fault { IsErrOf result StoreError.Fault →
-            Rose self.old.faults.count self.new.faults.count }
+        ensures fault { FaultsCounted (λ s. s.faults.count) self.old self.new result
+            StoreError.Fault }
     {
         self.faults.counted(Err(FileFault::ReadOnly))
     }

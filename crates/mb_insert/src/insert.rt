@@ -55,7 +55,7 @@ fn insert_loaded(
 /// Refused, the store holds what it held. After Ok the tables load again as the set with the batch. Rows of places that
 /// aren't put stay, and so do contents that no tile has any more, and all metadata. Rows of bytes that are put carry
 /// the digest of these, where the layout has one, and in a cache no times. A store that tells nothing is answered as is
-/// due of some tables. `StoreFault` comes only where the store's count of faults rose.
+/// due of some tables. `StoreFault` comes only where the store's count of faults rose, and at Ok the count stands.
 pub fn insert_tiles<S: TileStore>(
     alloc: Global,
     store: &mut S,

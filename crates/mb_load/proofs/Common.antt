@@ -39,6 +39,7 @@ pub use Rattle.mb_loaded.specs.Edits.{dates_for, id_for, is_named, only_referenc
 pub use Rattle.mb_loaded.specs.Edits.{with_value, without_name, without_tile}
 pub use Rattle.mb_loaded.specs.Held.{Edited}
 pub use Rattle.mb_store.proofs.Committed.{all_committed, left_committed, others_stay}
+pub use Rattle.mb_store.proofs.FaultLemmas.{counted_then, unasked}
 pub use Rattle.mb_store.specs.Committing.{CommitsTable, is_changed}
 pub use Rattle.mb_store.specs.MemStore.{told_sound}
 pub use Rattle.mb_store.specs.Store.{IsSound, without_rows}

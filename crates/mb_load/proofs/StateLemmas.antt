@@ -1,6 +1,6 @@
 -- What is due of tables is what is due of their rows.
 use Rattle.mb_load.proofs.Common.{algorithm_of, ap, Bool, by_place, Cell, cell_at, cond, content_of, content_rows, contents_by_id, dates_in, DedupId, due_by, Err, false, false≢true, filter_map}
-use Rattle.mb_load.proofs.Common.{first_refusal, Flat, from_entries, Hash, Held, held_by, held_in, id_in, index_missing, is_free, is_normalized, is_null, layout_of, List, Loads, MbtError, MbtType}
+use Rattle.mb_load.proofs.Common.{first_refusal, Flat, from_entries, Hash, Held, held_by, held_in, id_in, IfErr, index_missing, is_free, is_normalized, is_null, layout_of, List, Loads, MbtError, MbtType}
 use Rattle.mb_load.proofs.Common.{Metadata, metadata_missing, names_of, None, Normalized, NormalizedSchema, Ok, Option, option_and_then, option_or, pairs_by_id, patch_type_of, PatchType, place_cmp}
 use Rattle.mb_load.proofs.Common.{refl, Result, row_refusals, rows_due, Some, State, state_of, stated, StoreFault, subst, sym, table_eq, TableDesc, Tables, tile_in, tile_of, tile_table, tiles_of}
 use Rattle.mb_load.proofs.Common.{true, unless_refused, [], ◌∙◌, ◌∷◌, ◌≡◌, ◌≢◌}
@@ -89,5 +89,9 @@ own_of_store r s e h k = (made [] Flat [] [] [], subst (λ (x : Result Held MbtE
 pub own_refused : (r : Result Held MbtError) (ds : List TableDesc) (e f : MbtError) → r ≡ Err e → e ≡ f → ((t : Tables) → t.descriptions ≡ ds → state_of t ≡ Err f) → (t : Tables) × Loads (state_of t) r
 own_refused r ds e f h k due = (made ds Flat [] [] [], subst (λ (x : Result Held MbtError). Loads (state_of (made ds Flat [] [] [])) x) (sym h) (λ free. due (made ds Flat [] [] []) refl ∙ ap Err (sym k)))
 
-pub no_fault : {A X : Type 0} (r : Result A MbtError) (e f : MbtError) → r ≡ Err e → e ≡ f → f ≢ StoreFault → r ≡ Err StoreFault → X
-no_fault r e f h k n fault = let same : e ≡ StoreFault = cc in absurd (n (sym k ∙ same))
+-- an error that is no fault of a store
+pub no_fault : {A : Type 0} (r : Result A MbtError) (e f : MbtError) → r ≡ Err e → e ≡ f → f ≢ StoreFault → r ≢ Err StoreFault
+no_fault r e f h k n fault = let same : e ≡ StoreFault = cc in n (sym k ∙ same)
+
+pub never_faulted : {A : Type 0} (r : Result A MbtError) → IfErr r (λ e. e ≢ StoreFault) → r ≢ Err StoreFault
+never_faulted {A = A} r h fault = subst (λ (x : Result A MbtError). IfErr x (λ e. e ≢ StoreFault)) fault h refl

@@ -47,7 +47,8 @@ fn layout_in(tables: &[TableDesc]) -> MbtResult<MbtType>
 ///    changes while it is read.
 ///
 /// A store that tells nothing is refused, or loaded, as tables are that its answers could be of. `StoreFault` comes
-/// only where the store's count of faults rose. The store holds what it held, whatever the answer.
+/// only where the store's count of faults rose, and at Ok the count stands. The store holds what it held, whatever the
+/// answer.
 pub fn load<S: TileStore>(alloc: Global, store: &mut S) -> MbtResult<Loaded>
     ensures answer { S.tells store.old ≡ true → Loads (state_of (S.told store.old)) result }
     ensures own { (t : Tables) × Loads (state_of t) result }

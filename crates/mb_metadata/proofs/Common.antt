@@ -20,6 +20,7 @@ pub use Rattle.mb_metadata.specs.ZoomText.{digits_within, zoom_at, zoom_of}
 unfoldable pub use Rattle.mb_metadata.specs.ZoomText.{number_within}
 pub use Rattle.mb_metadata.specs.Zooms.{span, with_zoom, zooms_answer, zooms_of}
 pub use Rattle.mb_metadata.specs.declared.name_edits.NameEdit.{NameEdit}
+pub use Rattle.mb_store.proofs.FaultLemmas.{unasked}
 pub use Rattle.mb_tables.specs.Table.{key_of}
 pub use Rattle.mb_tables.specs.Tiles.{Place, place_cmp}
 pub use Rattle.mb_tables.specs.declared.cell.Cell.{Cell}

@@ -1,5 +1,6 @@
 -- What the crate's specs and sources name of the crates below, passed on from one place. Declares nothing.
 pub use Rattle.base_values.specs.Counts.{Rose}
+pub use Rattle.mb_store.specs.Kept.{FaultsCounted}
 pub use Rattle.mb_store.specs.declared.change.Change.{Change}
 pub use Rattle.mb_tables.specs.Described.{is_table}
 pub use Rattle.mb_tables.specs.Schema.{columns_of, set_tables}

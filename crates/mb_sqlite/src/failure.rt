@@ -72,6 +72,7 @@ pub(crate) fn counted<T>(faults: &mut u64, answer: Result<T, Failure>) -> Result
     ensures refused_alone { OnErr result (OnOk answer ⊥) }
     ensures faults { faults.old ≤ faults.new }
     ensures fault { IsErrOf result StoreError.Fault → Rose faults.old faults.new }
+    ensures still { OnOk result (faults.new ≡ faults.old) }
 {
     match answer {
         Ok(value) => Ok(value),

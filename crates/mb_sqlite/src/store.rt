@@ -1,6 +1,6 @@
 // A store over a database.
 ghost use Rattle.std.specs.Prelude.{◌≡◌, ◌≤◌, false, true, [], All, IfOk, IfSome, IsErrOf, OnErr, OnOk, length};
-ghost use Rattle.mb_sqlite.specs.Common.{Rose, set_tables, width};
+ghost use Rattle.mb_sqlite.specs.Common.{FaultsCounted, set_tables, width};
 ghost use Rattle.mb_sqlite.specs.Calls.{ChangesOnce, CommitsChanges, HasTable, IsInside, IsPrepared, LeavesStore, MakesOnce, OnlyMakes, RefusesStore, Saw};
 ghost use Rattle.mb_sqlite.specs.Committing.{KeepsCommitted};
 ghost use Rattle.mb_sqlite.specs.Creation.{are_named};
@@ -80,7 +80,7 @@ impl<S: Alter> SqliteStore<S> {
         ensures layout { self.new.layout ≡ self.old.layout }
         ensures cursor { self.new.cursor ≡ self.old.cursor }
         ensures faults { self.old.faults ≤ self.new.faults }
-        ensures fault { IsErrOf result StoreError.Fault → Rose self.old.faults self.new.faults }
+        ensures fault { FaultsCounted (λ s. s.faults) self.old self.new result StoreError.Fault }
     {
         if !self.connection.is_autocommit() {
             return counted(&mut self.faults, Err(Failure::Fault));
@@ -133,7 +133,7 @@ impl<S: Alter> TileStore for SqliteStore<S> {
         ensures cursor { self.new.cursor ≡ self.old.cursor }
         ensures made { OnOk result (self.new.is_made ≡ true) }
         ensures faults { self.old.faults ≤ self.new.faults }
-        ensures fault { IsErrOf result StoreError.Fault → Rose self.old.faults self.new.faults }
+        ensures fault { FaultsCounted (λ s. s.faults) self.old self.new result StoreError.Fault }
     {
         self.begin()?;
         Ok(set_tables(alloc, self.layout)?)
@@ -152,7 +152,7 @@ impl<S: Alter> TileStore for SqliteStore<S> {
         ensures cursor { self.new.cursor ≡ self.old.cursor }
         ensures made { OnOk result (self.new.is_made ≡ true) }
         ensures faults { self.old.faults ≤ self.new.faults }
-        ensures fault { IsErrOf result StoreError.Fault → Rose self.old.faults self.new.faults }
+        ensures fault { FaultsCounted (λ s. s.faults) self.old self.new result StoreError.Fault }
     {
         self.begin()?;
         if !has_table(self.layout, table) {
@@ -188,7 +188,7 @@ impl<S: Alter> TileStore for SqliteStore<S> {
         ensures layout { self.new.layout ≡ self.old.layout }
         ensures made { OnOk result (self.new.is_made ≡ true) }
         ensures faults { self.old.faults ≤ self.new.faults }
-        ensures fault { IsErrOf result StoreError.Fault → Rose self.old.faults self.new.faults }
+        ensures fault { FaultsCounted (λ s. s.faults) self.old self.new result StoreError.Fault }
     {
         self.begin()?;
         if !has_table(self.layout, table) {
@@ -219,7 +219,7 @@ impl<S: Alter> TileStore for SqliteStore<S> {
         ensures cursor { self.new.cursor ≡ self.old.cursor }
         ensures made { OnOk result (self.new.is_made ≡ true) }
         ensures faults { self.old.faults ≤ self.new.faults }
-        ensures fault { IsErrOf result StoreError.Fault → Rose self.old.faults self.new.faults }
+        ensures fault { FaultsCounted (λ s. s.faults) self.old self.new result StoreError.Fault }
     {
         self.begin()?;
         if !has_table(self.layout, table) {
@@ -241,7 +241,7 @@ impl<S: Alter> TileStore for SqliteStore<S> {
         ensures cursor { self.new.cursor ≡ self.old.cursor }
         ensures made { OnOk result (self.new.is_made ≡ true) }
         ensures faults { self.old.faults ≤ self.new.faults }
-        ensures fault { IsErrOf result StoreError.Fault → Rose self.old.faults self.new.faults }
+        ensures fault { FaultsCounted (λ s. s.faults) self.old self.new result StoreError.Fault }
     {
         self.begin()?;
         let own = set_tables(alloc, self.layout)?;
@@ -265,7 +265,7 @@ impl<S: Alter> TileStore for SqliteStore<S> {
         ensures layout { self.new.layout ≡ self.old.layout }
         ensures made { OnOk result (self.new.is_made ≡ true) }
         ensures faults { self.old.faults ≤ self.new.faults }
-        ensures fault { IsErrOf result StoreError.Fault → Rose self.old.faults self.new.faults }
+        ensures fault { FaultsCounted (λ s. s.faults) self.old self.new result StoreError.Fault }
     {
         self.begin()?;
         self.cursor = None;
@@ -289,7 +289,7 @@ impl<S: Alter> TileStore for SqliteStore<S> {
         ensures cursor { self.new.cursor ≡ self.old.cursor }
         ensures made { OnOk result (self.new.is_made ≡ true) }
         ensures faults { self.old.faults ≤ self.new.faults }
-        ensures fault { IsErrOf result StoreError.Fault → Rose self.old.faults self.new.faults }
+        ensures fault { FaultsCounted (λ s. s.faults) self.old self.new result StoreError.Fault }
     {
         self.begin()?;
         let answer = reading::size(&mut self.connection, self.layout);

@@ -1,6 +1,6 @@
 // A tree of files below a folder of the system.
-ghost use Rattle.std.specs.Prelude.{◌≡◌, IfOk};
-ghost use Rattle.mb_tree.specs.Common.{empty};
+ghost use Rattle.std.specs.Prelude.{◌≡◌, ◌≤◌, IfOk, IsErrOf, OnOk};
+ghost use Rattle.mb_tree.specs.Common.{empty, Rose};
 
 use crate::folder_files::{list_all, read_file};
 use crate::folder_writing::write_file;
@@ -43,6 +43,22 @@ impl FolderTree {
     }
 }
 
+// The answer of a call, of which a fault is counted.
+fn counted<T>(faults: &mut u64, answer: Result<T, TreeError>) -> Result<T, TreeError>
+    ensures faults { faults.old ≤ faults.new }
+    ensures fault { IsErrOf result TreeError.Fault → Rose faults.old faults.new }
+    ensures still { OnOk result (faults.new ≡ faults.old) }
+{
+    match answer {
+        Ok(value) => Ok(value),
+        Err(TreeError::OutOfMemory) => Err(TreeError::OutOfMemory),
+        Err(TreeError::Fault) => {
+            *faults = faults.saturating_add(1);
+            Err(TreeError::Fault)
+        }
+    }
+}
+
 impl TileTree for FolderTree {
     ghost use Rattle.std.specs.Prelude.{false};
     ghost use Rattle.mb_tree.specs.Common.{empty};
@@ -56,26 +72,17 @@ impl TileTree for FolderTree {
     ghost steady = { λ _. ⊥ };
 
     fn list(&mut self, alloc: Global) -> Result<Vec<TextVal>, TreeError> {
-        let done = list_all(&self.runtime, alloc, self.root.as_str());
-        if matches!(done, Err(TreeError::Fault)) {
-            self.faults = self.faults.saturating_add(1);
-        }
-        done
+        let answer = list_all(&self.runtime, alloc, self.root.as_str());
+        counted(&mut self.faults, answer)
     }
 
     fn read(&mut self, alloc: Global, path: &str) -> Result<BlobVal, TreeError> {
-        let done = read_file(&self.runtime, alloc, self.root.as_str(), path);
-        if matches!(done, Err(TreeError::Fault)) {
-            self.faults = self.faults.saturating_add(1);
-        }
-        done
+        let answer = read_file(&self.runtime, alloc, self.root.as_str(), path);
+        counted(&mut self.faults, answer)
     }
 
     fn write(&mut self, alloc: Global, path: &str, bytes: &[u8]) -> Result<(), TreeError> {
-        let done = write_file(&self.runtime, alloc, self.root.as_str(), path, bytes);
-        if matches!(done, Err(TreeError::Fault)) {
-            self.faults = self.faults.saturating_add(1);
-        }
-        done
+        let answer = write_file(&self.runtime, alloc, self.root.as_str(), path, bytes);
+        counted(&mut self.faults, answer)
     }
 }

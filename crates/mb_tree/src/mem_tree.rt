@@ -1,7 +1,7 @@
 // A tree of files in memory.
 ghost use Rattle.std.specs.Prelude.{◌≡◌, ◌↔◌, ◌≤◌, [], Some, true, IfOk, IsErrOf, OnErr, OnOk};
 ghost use Rattle.std.specs.BTreeMap.{keys};
-ghost use Rattle.mb_tree.specs.Common.{contains_key, empty, get, insert, Rose};
+ghost use Rattle.mb_tree.specs.Common.{contains_key, empty, FaultsCounted, get, insert};
 ghost use Rattle.base_values.specs.FailingCalls.{called, next_fails};
 ghost use Rattle.mb_tree.specs.Files.{files_of_list, paths_of};
 
@@ -116,8 +116,7 @@ impl TileTree for MemTree {
         ensures fails { IsErrOf result TreeError.Fault ↔ (next_fails (failing_of self.old) ≡ true) }
         ensures after { failing_of self.new ≡ called (failing_of self.old) }
         ensures faults { faults_of self.old ≤ faults_of self.new }
-        ensures fault { IsErrOf result TreeError.Fault →
-            Rose (faults_of self.old) (faults_of self.new) }
+        ensures fault { FaultsCounted faults_of self.old self.new result TreeError.Fault }
         ensures steady { IsSteady self.old → IsSteady self.new }
         ensures calm { IsSteady self.old → faults_of self.new ≡ faults_of self.old }
     {
@@ -134,8 +133,7 @@ impl TileTree for MemTree {
         ensures fails { IsErrOf result TreeError.Fault ↔ (next_fails (failing_of self.old) ≡ true) }
         ensures after { failing_of self.new ≡ called (failing_of self.old) }
         ensures faults { faults_of self.old ≤ faults_of self.new }
-        ensures fault { IsErrOf result TreeError.Fault →
-            Rose (faults_of self.old) (faults_of self.new) }
+        ensures fault { FaultsCounted faults_of self.old self.new result TreeError.Fault }
         ensures steady { IsSteady self.old → IsSteady self.new }
         ensures calm { IsSteady self.old → faults_of self.new ≡ faults_of self.old }
     {
@@ -152,8 +150,7 @@ impl TileTree for MemTree {
         ensures fails { IsErrOf result TreeError.Fault ↔ (next_fails (failing_of self.old) ≡ true) }
         ensures after { failing_of self.new ≡ called (failing_of self.old) }
         ensures faults { faults_of self.old ≤ faults_of self.new }
-        ensures fault { IsErrOf result TreeError.Fault →
-            Rose (faults_of self.old) (faults_of self.new) }
+        ensures fault { FaultsCounted faults_of self.old self.new result TreeError.Fault }
         ensures steady { IsSteady self.old → IsSteady self.new }
         ensures calm { IsSteady self.old → faults_of self.new ≡ faults_of self.old }
     {

@@ -1,6 +1,6 @@
 // Packing a tree of files into a tile set.
-ghost use Rattle.std.specs.Prelude.{◌≡◌, ◌≢◌, true, IfErr, IfOk, IsErrOf, OnOk};
-ghost use Rattle.mb_tree.specs.Common.{FaultsCounted, Keeps, ReadsOnly, Rose};
+ghost use Rattle.std.specs.Prelude.{◌≡◌, ◌≢◌, true, IfErr, IfOk, OnOk};
+ghost use Rattle.mb_tree.specs.Common.{FaultsCounted, Keeps, ReadsOnly};
 ghost use Rattle.mb_tree.specs.PackSteps.{Packs, RefusesPaths};
 ghost use Rattle.mb_tree.specs.Packed.{IsLeft, IsPacked, IsPacking};
 
@@ -25,8 +25,7 @@ fn pack_loaded<T: TileTree>(
     ensures packed { IfOk result (Packs scheme (T.tells tree.old) (T.told tree.old) base) }
     ensures unfaulted { IfErr result (λ e. e ≢ MbtError.StoreFault) }
     ensures kept { ReadsOnly T.told T.tells T.faults T.steady tree.old tree.new }
-    ensures fault { IsErrOf result MbtError.TreeFault →
-        Rose (T.faults tree.old) (T.faults tree.new) }
+    ensures fault { FaultsCounted T.faults tree.old tree.new result MbtError.TreeFault }
 {
     let listed = tree.list(alloc)?;
     let paths = listed.as_slice();
@@ -69,8 +68,7 @@ pub fn pack<T: TileTree, S: TileStore>(
         IfErr result (IsLeft (S.told store.old) (S.told store.new)) }
     ensures tree_kept { ReadsOnly T.told T.tells T.faults T.steady tree.old tree.new }
     ensures kept { Keeps S.tells S.faults S.steady store.old store.new }
-    ensures tree_fault { IsErrOf result MbtError.TreeFault →
-        Rose (T.faults tree.old) (T.faults tree.new) }
+    ensures tree_fault { FaultsCounted T.faults tree.old tree.new result MbtError.TreeFault }
     ensures fault { FaultsCounted S.faults store.old store.new result MbtError.StoreFault }
 {
     let base = base_of(alloc, store)?;

@@ -1,6 +1,6 @@
 // The tiles of files that are put into a set.
-ghost use Rattle.std.specs.Prelude.{◌≡◌, ◌≢◌, ℕ, List, true, All, IfErr, IfOk, IsErrOf, OnOk};
-ghost use Rattle.mb_tree.specs.Common.{Abort, contains_key, duplicates, Held, is_coord, len, place_in, ReadsOnly, Rose, Tests};
+ghost use Rattle.std.specs.Prelude.{◌≡◌, ◌≢◌, ℕ, List, true, All, IfErr, IfOk, OnOk};
+ghost use Rattle.mb_tree.specs.Common.{Abort, contains_key, duplicates, FaultsCounted, Held, is_coord, len, place_in, ReadsOnly, Tests};
 ghost use Rattle.mb_lists.specs.Entries.{place_at};
 ghost use Rattle.mb_tree.specs.Files.{File, paths_in};
 ghost use Rattle.mb_tree.specs.PackSteps.{AreAllRead, IsFit, IsRead};
@@ -42,8 +42,7 @@ fn put_file<T: TileTree>(
     ensures unfaulted { IfErr result (λ e. e ≢ MbtError.StoreFault) }
     ensures wanting { IfErr result (λ e. is_wanting e ≡ true) }
     ensures kept { ReadsOnly T.told T.tells T.faults T.steady tree.old tree.new }
-    ensures fault { IsErrOf result MbtError.TreeFault →
-        Rose (T.faults tree.old) (T.faults tree.new) }
+    ensures fault { FaultsCounted T.faults tree.old tree.new result MbtError.TreeFault }
 {
     let Some(tile) = read_path(path.as_str()) else {
         return Ok(());
@@ -69,8 +68,7 @@ pub(crate) fn put_files<T: TileTree>(
     ensures unfaulted { IfErr result (λ e. e ≢ MbtError.StoreFault) }
     ensures wanting { IfErr result (λ e. is_wanting e ≡ true) }
     ensures kept { ReadsOnly T.told T.tells T.faults T.steady tree.old tree.new }
-    ensures fault { IsErrOf result MbtError.TreeFault →
-        Rose (T.faults tree.old) (T.faults tree.new) }
+    ensures fault { FaultsCounted T.faults tree.old tree.new result MbtError.TreeFault }
 {
     let mut tiles = base.edit();
     for path in paths {

@@ -1,6 +1,6 @@
 // Trees of files.
-ghost use Rattle.std.specs.Prelude.{◌≡◌, ℕ, Bool, Some, true, IfOk, IsErrOf, OnErr, OnOk};
-ghost use Rattle.mb_tree.specs.Common.{contains_key, get, insert, Keeps, ReadsOnly, Rose};
+ghost use Rattle.std.specs.Prelude.{◌≡◌, ℕ, Bool, Some, true, IfOk, OnErr, OnOk};
+ghost use Rattle.mb_tree.specs.Common.{contains_key, FaultsCounted, get, insert, Keeps, ReadsOnly};
 ghost use Rattle.mb_tree.specs.Files.{Files, paths_of};
 
 use base_values::{BlobVal, OutOfMemory, TextVal};
@@ -84,7 +84,7 @@ pub trait TileTree {
         ensures answer { tells self.old ≡ true →
             IfOk result (λ paths. paths.items ≡ paths_of (told self.old)) }
         ensures kept { ReadsOnly told tells faults steady self.old self.new }
-        ensures fault { IsErrOf result TreeError.Fault → Rose (faults self.old) (faults self.new) };
+        ensures fault { FaultsCounted faults self.old self.new result TreeError.Fault };
 
     /// The bytes of the file at a path, which is there.
     fn read(&mut self, alloc: Global, path: &str) -> Result<BlobVal, TreeError>
@@ -92,7 +92,7 @@ pub trait TileTree {
         ensures answer { tells self.old ≡ true →
             IfOk result (λ bytes. get (told self.old) path.now ≡ Some bytes) }
         ensures kept { ReadsOnly told tells faults steady self.old self.new }
-        ensures fault { IsErrOf result TreeError.Fault → Rose (faults self.old) (faults self.new) };
+        ensures fault { FaultsCounted faults self.old self.new result TreeError.Fault };
 
     /// Puts bytes at a path, in place of the file that is there. Refused, the tree has the files that it had.
     fn write(&mut self, alloc: Global, path: &str, bytes: &[u8]) -> Result<(), TreeError>
@@ -100,5 +100,5 @@ pub trait TileTree {
             OnOk result (told self.new ≡ insert (told self.old) path.now bytes.now) }
         ensures err { OnErr result (told self.new ≡ told self.old) }
         ensures kept { Keeps tells faults steady self.old self.new }
-        ensures fault { IsErrOf result TreeError.Fault → Rose (faults self.old) (faults self.new) };
+        ensures fault { FaultsCounted faults self.old self.new result TreeError.Fault };
 }

@@ -1,6 +1,6 @@
 // Unpacking a tile set into a tree of files.
 ghost use Rattle.std.specs.Prelude.{◌≡◌, ◌≢◌, ◌<◌, string_bytes, true, IfErr, IfOk, IsErrOf, OnErr, OnOk};
-ghost use Rattle.mb_tree.specs.Common.{Answers, FaultsCounted, IsCoord, Keeps, len, ReadsOnly, Rose};
+ghost use Rattle.mb_tree.specs.Common.{Answers, FaultsCounted, IsCoord, Keeps, len, ReadsOnly};
 ghost use Rattle.mb_tree.specs.UnpackSteps.{IsPut};
 ghost use Rattle.mb_tree.specs.Files.{written};
 ghost use Rattle.mb_tree.specs.Scheme.{turned};
@@ -64,7 +64,7 @@ fn write_tile<T: TileTree>(
         (T.told tree.new)) }
     ensures refused { OnErr result (T.told tree.new ≡ T.told tree.old) }
     ensures kept { Keeps T.tells T.faults T.steady tree.old tree.new }
-    ensures fault { IsErrOf result TreeError.Fault → Rose (T.faults tree.old) (T.faults tree.new) }
+    ensures fault { FaultsCounted T.faults tree.old tree.new result TreeError.Fault }
 {
     let (coord, contents) = set.tile_at(index);
     match contents {
@@ -91,7 +91,7 @@ fn write_tiles<T: TileTree>(
         OnErr result (IsFront (files_of scheme format set.now.state.tiles) (T.told tree.old)
         (T.told tree.new)) }
     ensures kept { Keeps T.tells T.faults T.steady tree.old tree.new }
-    ensures fault { IsErrOf result TreeError.Fault → Rose (T.faults tree.old) (T.faults tree.new) }
+    ensures fault { FaultsCounted T.faults tree.old tree.new result TreeError.Fault }
 {
     for index in 0..set.tile_count() {
         write_tile(alloc, tree, set, index, scheme, format)?;
@@ -118,8 +118,7 @@ pub fn unpack<S: TileStore, T: TileTree>(
     ensures unwritten { IsErrOf result MbtError.StoreFault → T.told tree.new ≡ T.told tree.old }
     ensures store_kept { ReadsOnly S.told S.tells S.faults S.steady store.old store.new }
     ensures kept { Keeps T.tells T.faults T.steady tree.old tree.new }
-    ensures tree_fault { IsErrOf result MbtError.TreeFault →
-        Rose (T.faults tree.old) (T.faults tree.new) }
+    ensures tree_fault { FaultsCounted T.faults tree.old tree.new result MbtError.TreeFault }
     ensures fault { FaultsCounted S.faults store.old store.new result MbtError.StoreFault }
 {
     let set = load(alloc, store)?;

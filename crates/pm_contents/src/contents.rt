@@ -86,6 +86,7 @@ impl Contents {
             → M.reads medium.new ≡ M.reads medium.old }
         ensures cause { IsErrOf result WriteFault.Fault
             → Rose (M.faults medium.old) (M.faults medium.new) }
+        ensures still { OnOk result (M.faults medium.new ≡ M.faults medium.old) }
         ensures counted { M.reads medium.old ≤ M.reads medium.new }
         ensures reads { M.reads medium.new ≤ M.reads medium.old + 1 }
         ensures kept { ReadsOnly M.told M.versions M.faults M.steady medium.old medium.new }
@@ -157,6 +158,7 @@ impl Contents {
             (M.told medium.old) (M.told medium.new) }
         ensures cause { IsErrOf result WriteFault.Fault
             → Rose (M.faults medium.old) (M.faults medium.new) }
+        ensures still { OnOk result (M.faults medium.new ≡ M.faults medium.old) }
         ensures reads { M.reads medium.new ≡ M.reads medium.old }
         ensures kept { KeepsMedium M.told M.versions M.reads M.faults M.steady
             medium.old medium.new }
@@ -193,6 +195,7 @@ impl Contents {
             (M.told medium.old) (M.told medium.new) }
         ensures cause { IsErrOf result WriteFault.Fault
             → Rose (M.faults medium.old) (M.faults medium.new) }
+        ensures still { OnOk result (M.faults medium.new ≡ M.faults medium.old) }
         ensures reads { M.reads medium.new ≡ M.reads medium.old }
         ensures kept { KeepsMedium M.told M.versions M.reads M.faults M.steady
             medium.old medium.new }
@@ -247,6 +250,7 @@ impl Contents {
             (M.told medium.old) (M.told medium.new) }
         ensures cause { IsErrOf result WriteFault.Fault
             → Rose (M.faults medium.old) (M.faults medium.new) }
+        ensures still { OnOk result (M.faults medium.new ≡ M.faults medium.old) }
         ensures reads { M.reads medium.new ≡ M.reads medium.old }
         ensures kept { KeepsMedium M.told M.versions M.reads M.faults M.steady
             medium.old medium.new }

@@ -1,5 +1,5 @@
 // Where a content lies among the bytes of all contents, and what a medium answers there.
-ghost use Rattle.std.specs.Prelude.{◌≡◌, ◌≢◌, ◌≤◌, ◌<◌, ◌+◌, ◌^◌, true, drop, length, IfSome, IfOk, IsErrOf};
+ghost use Rattle.std.specs.Prelude.{◌≡◌, ◌≢◌, ◌≤◌, ◌<◌, ◌+◌, ◌^◌, true, drop, length, IfSome, IfOk, IsErrOf, OnOk};
 ghost use Rattle.pm_contents.specs.Common.{bytes_eq, IsWithin, ReadsOnly, Rose};
 ghost use Rattle.pm_contents.specs.Contents.{in_span};
 ghost use Rattle.pm_contents.specs.Span.{Stood, same_by};
@@ -49,6 +49,7 @@ impl Span {
         ensures quiet { self.length ≢ length bytes.now → M.reads medium.new ≡ M.reads medium.old }
         ensures cause { IsErrOf result WriteFault.Fault
             → Rose (M.faults medium.old) (M.faults medium.new) }
+        ensures still { OnOk result (M.faults medium.new ≡ M.faults medium.old) }
         ensures counted { M.reads medium.old ≤ M.reads medium.new }
         ensures reads { M.reads medium.new ≤ M.reads medium.old + 1 }
         ensures kept { ReadsOnly M.told M.versions M.faults M.steady medium.old medium.new }

@@ -7,6 +7,7 @@ pub mod HeaderLemmas
 pub mod Ranges
 pub mod ArchiveOpens
 pub mod EntryLemmas
+pub mod FaultLemmas
 pub mod SearchLemmas
 pub mod LookUpLemmas
 pub mod OptionLemmas

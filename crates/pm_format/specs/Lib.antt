@@ -4,6 +4,7 @@ pub mod Columns
 pub mod Directory
 pub mod ErrorName
 pub mod Errors
+pub mod Faults
 pub mod Header
 pub mod HeaderDefaults
 pub mod LookUp

@@ -8,6 +8,7 @@ pub record Going {B V : Type 0} (tells : B → Option (List ℕ)) (texts : B →
   pub budget : t.budget ≤ s.budget
   pub reads : GrewBetween (count x) (count y) (s.budget - t.budget) (s.budget - t.budget)
   pub faults : failed x ≤ failed y
+  pub still : failed y ≡ failed x
   pub versions : texts y ≡ texts x
   pub calm : steady x → steady y × (failed y ≡ failed x)
   pub fewer : length (queue_of t) + 2 ^ 64 * t.budget ≤ length (queue_of s) + 2 ^ 64 * s.budget

@@ -4,6 +4,7 @@ pub use Rattle.bounded_lru.specs.Bounded.{Bounded, bounded, fits, IsWithin, Puts
 pub use Rattle.byte_media.specs.declared.backend.BackendResponse.{BackendResponse}
 pub use Rattle.pm_format.specs.Directory.{column, Entry, entry, offset_of}
 unfoldable pub use Rattle.pm_format.specs.Directory.{dir_of}
+pub use Rattle.pm_format.specs.Faults.{FaultsStand}
 pub use Rattle.pm_format.specs.LookUp.{archive_tile, data_of, directory_at, entry_from, hops, hops_from, leaf_of, range_of}
 unfoldable pub use Rattle.pm_format.specs.LookUp.{hops_by, tile_by}
 pub use Rattle.pm_format.specs.Opened.{Opened, opened_front, root_decoded, root_placed}

@@ -1,11 +1,13 @@
 -- What a reader that isn't made leaves of the backend that it would have borrowed.
 use Rattle.std.specs.Prelude.{ℕ, List, Option, Result}
-use Rattle.pm_reader.specs.Common.{Grew, PmtError}
+use Rattle.pm_reader.specs.Common.{FaultsStand, Grew, PmtError}
 use Rattle.pm_reader.specs.Opening.{OpenCauses}
 use Rattle.pm_reader.specs.Reads.{ReadsOnly}
 
--- The backend is read once and no more, tells what it told, and a fault comes only where its count of faults rose.
+-- The backend is read once and no more, tells what it told, and a fault comes only where its count of faults rose, which
+-- else stands, but for want of memory.
 pub record LeftByOpening {A B V : Type 0} (told : B → Option (List ℕ)) (texts : B → V) (failed read : B → ℕ) (steady : B → Type 0) (old : B) (result : Result A PmtError) (new : B) : Type 0 where
   pub causes : OpenCauses (failed old) (failed new) result
+  pub still : FaultsStand (failed old) (failed new) result
   pub kept : ReadsOnly told texts failed steady old new
   pub reads : Grew (read old) (read new) 1

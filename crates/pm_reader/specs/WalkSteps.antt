@@ -1,6 +1,6 @@
 -- One step of a walk.
 use Rattle.std.specs.Prelude.{◌≡◌, ℕ, ◌+◌, ◌-◌, ◌*◌, ◌^◌, ◌≤◌, Bool, cond, List, [], ◌∷◌, ◌++◌, drop, length, flat_map, Option, Some, None, Ok, Err}
-use Rattle.pm_reader.specs.Common.{Entry, Header, leaf_of, PmtError}
+use Rattle.pm_reader.specs.Common.{Entry, FaultsStand, Header, leaf_of, PmtError}
 use Rattle.pm_format.specs.declared.error.PmtError.TheVariants as errors
 use Rattle.pm_format.specs.declared.error.ReadCause.TheVariants as causes
 use Rattle.pm_reader.specs.Answers.{Gives, LookUpCauses}
@@ -52,6 +52,11 @@ WalkCauses before now None = Unit {0}
 WalkCauses before now (Some (Ok e)) = Unit {0}
 WalkCauses before now (Some (Err errors.BudgetSpent)) = Unit {0}
 WalkCauses before now (Some (Err e)) = LookUpCauses {A = Entry} before now (Err e)
+
+-- a step leaves the count of faults as it is, but for a fault and want of memory
+abbrev pub StepStands : ℕ → ℕ → Option Item → Type 0
+StepStands before now None = now ≡ before
+StepStands before now (Some item) = FaultsStand before now item
 
 -- a unit whose leaf was refused
 abbrev pub refused_units : Option Item → ℕ

@@ -1,6 +1,6 @@
 // Leaves: read, or found in a cache, and followed to the entry of a tile.
 ghost use Rattle.std.specs.Prelude.{◌≡◌, ◌≤◌, ◌-◌, IfSome};
-ghost use Rattle.pm_reader.specs.Common.{leaf_of};
+ghost use Rattle.pm_reader.specs.Common.{leaf_of, FaultsStand};
 ghost use Rattle.pm_reader.specs.Answers.{Gives, IsWhole, LookUpCauses};
 ghost use Rattle.pm_reader.specs.Caches.{CacheLimits};
 ghost use Rattle.pm_reader.specs.Levels.{IsAtLevel, IsLeafEntry, IsTrusted};
@@ -24,6 +24,7 @@ pub(crate) fn read_leaf<B: Backend>(
 ) -> PmtResult<Directory>
     ensures answer { IfSome (B.told backend.old) (λ b. Gives (leaf_of header.now b leaf) result) }
     ensures causes { LookUpCauses (B.faults backend.old) (B.faults backend.new) result }
+    ensures still { FaultsStand (B.faults backend.old) (B.faults backend.new) result }
     ensures whole { IfSome (B.told backend.old) (λ _. IsWhole result) }
     ensures kept { ReadsOnly B.told B.versions B.faults B.steady backend.old backend.new }
     ensures reads { GrewBetween (B.reads backend.old) (B.reads backend.new) (reads_done result) 1 }
@@ -51,6 +52,7 @@ impl ReaderState {
         ensures idle { C.idle cache.old → C.idle cache.new }
         ensures limits { (l : CacheLimits) → C.keeps_to cache.old l → C.keeps_to cache.new l }
         ensures causes { LookUpCauses (B.faults backend.old) (B.faults backend.new) result }
+        ensures still { FaultsStand (B.faults backend.old) (B.faults backend.new) result }
         ensures whole { IfSome (B.told backend.old) (λ _. IsWhole result) }
         ensures kept { ReadsOnly B.told B.versions B.faults B.steady backend.old backend.new }
         ensures reads { GrewBetween (B.reads backend.old) (B.reads backend.new) 0 1 }
@@ -90,6 +92,7 @@ impl ReaderState {
         ensures idle { C.idle cache.old → C.idle cache.new }
         ensures limits { (l : CacheLimits) → C.keeps_to cache.old l → C.keeps_to cache.new l }
         ensures causes { LookUpCauses (B.faults backend.old) (B.faults backend.new) result }
+        ensures still { FaultsStand (B.faults backend.old) (B.faults backend.new) result }
         ensures whole { IfSome (B.told backend.old) (λ _. IsWhole result) }
         ensures kept { ReadsOnly B.told B.versions B.faults B.steady backend.old backend.new }
         ensures reads { GrewBetween (B.reads backend.old) (B.reads backend.new) 0 left }

@@ -1,6 +1,6 @@
 // Look-ups of tiles.
 ghost use Rattle.std.specs.Prelude.{◌≡◌, IfSome};
-ghost use Rattle.pm_reader.specs.Common.{archive_tile};
+ghost use Rattle.pm_reader.specs.Common.{archive_tile, FaultsStand};
 ghost use Rattle.pm_reader.specs.Answers.{FoundTextAt, Gives, IsWhole, LookUpCauses, contents_of, tile_of};
 ghost use Rattle.pm_reader.specs.Archives.{IsCacheable, ReadsByHops};
 ghost use Rattle.pm_reader.specs.Caches.{CacheLimits};
@@ -36,6 +36,7 @@ impl ReaderState {
         ensures idle { C.idle cache.old → C.idle cache.new }
         ensures limits { (l : CacheLimits) → C.keeps_to cache.old l → C.keeps_to cache.new l }
         ensures causes { LookUpCauses (B.faults backend.old) (B.faults backend.new) result }
+        ensures still { FaultsStand (B.faults backend.old) (B.faults backend.new) result }
         ensures whole { IfSome (B.told backend.old) (λ _. IsWhole result) }
         ensures kept { ReadsOnly B.told B.versions B.faults B.steady backend.old backend.new }
         ensures reads { GrewBetween (B.reads backend.old) (B.reads backend.new)
@@ -72,6 +73,7 @@ impl ReaderState {
         ensures open { IsOpen (B.told backend.new) self.now }
         ensures answer { IfSome (B.told backend.old) (λ b. Gives (archive_tile b tile_id) result) }
         ensures causes { LookUpCauses (B.faults backend.old) (B.faults backend.new) result }
+        ensures still { FaultsStand (B.faults backend.old) (B.faults backend.new) result }
         ensures whole { IfSome (B.told backend.old) (λ _. IsWhole result) }
         ensures hops { IfSome (B.told backend.old)
             (λ b. ReadsByHops b tile_id (B.reads backend.old) (B.reads backend.new)) }
@@ -106,6 +108,7 @@ impl ReaderState {
         ensures idle { C.idle cache.old → C.idle cache.new }
         ensures limits { (l : CacheLimits) → C.keeps_to cache.old l → C.keeps_to cache.new l }
         ensures causes { LookUpCauses (B.faults backend.old) (B.faults backend.new) result }
+        ensures still { FaultsStand (B.faults backend.old) (B.faults backend.new) result }
         ensures whole { IfSome (B.told backend.old) (λ _. IsWhole result) }
         ensures reads { GrewBetween (B.reads backend.old) (B.reads backend.new) (reads_for result)
             7 }

@@ -4,6 +4,7 @@ ghost use Rattle.pm_reader.specs.Metadata.{IsTextOf, MetadataAnswers, MetadataCa
 ghost use Rattle.pm_reader.specs.Opening.{header_of};
 ghost use Rattle.pm_reader.specs.Reads.{GrewBetween, ReadsOnly};
 ghost use Rattle.pm_reader.specs.Tied.{IsTied};
+ghost use Rattle.pm_reader.specs.Common.{FaultsStand};
 
 use crate::ranges::read_range;
 use crate::{DirectoryCache, PmTilesReader, ReaderState};
@@ -19,6 +20,7 @@ impl ReaderState {
         ensures answer { IfSome (B.told backend.old)
             (λ b. MetadataAnswers (metadata_read b (header_of self.now)) result) }
         ensures causes { MetadataCauses (B.faults backend.old) (B.faults backend.new) result }
+        ensures still { FaultsStand (B.faults backend.old) (B.faults backend.new) result }
         ensures kept { ReadsOnly B.told B.versions B.faults B.steady backend.old backend.new }
         ensures reads { GrewBetween (B.reads backend.old) (B.reads backend.new) 0 1 }
     {
@@ -56,6 +58,8 @@ impl<'a, B: Backend, C: DirectoryCache> PmTilesReader<'a, B, C> {
         ensures answer { IfSome (B.told self.old.backend.now)
             (λ b. MetadataAnswers (metadata_read b (header_of self.new.state)) result) }
         ensures causes { MetadataCauses (B.faults self.old.backend.now)
+            (B.faults self.new.backend.now) result }
+        ensures still { FaultsStand (B.faults self.old.backend.now)
             (B.faults self.new.backend.now) result }
         ensures kept { ReadsOnly B.told B.versions B.faults B.steady self.old.backend.now
             self.new.backend.now }

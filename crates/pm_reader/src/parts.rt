@@ -1,6 +1,6 @@
 // Parts of an archive at given places: directories of the leaf part, and contents of the data part.
 ghost use Rattle.std.specs.Prelude.{◌≡◌, ◌+◌, IfSome};
-ghost use Rattle.pm_reader.specs.Common.{directory_at};
+ghost use Rattle.pm_reader.specs.Common.{directory_at, FaultsStand};
 ghost use Rattle.pm_reader.specs.Answers.{Gives, IsWhole, LookUpCauses, RangeCauses, range_read};
 ghost use Rattle.pm_reader.specs.Opening.{header_of};
 ghost use Rattle.pm_reader.specs.Reads.{GrewBetween, ReadsOnly, reads_done};
@@ -24,6 +24,7 @@ pub(crate) fn read_directory_at<B: Backend>(
     ensures answer { IfSome (B.told backend.old)
         (λ b. Gives (directory_at header.now b offset length) result) }
     ensures causes { LookUpCauses (B.faults backend.old) (B.faults backend.new) result }
+    ensures still { FaultsStand (B.faults backend.old) (B.faults backend.new) result }
     ensures whole { IfSome (B.told backend.old) (λ _. IsWhole result) }
     ensures kept { ReadsOnly B.told B.versions B.faults B.steady backend.old backend.new }
     ensures reads { GrewBetween (B.reads backend.old) (B.reads backend.new) (reads_done result) 1 }
@@ -50,6 +51,7 @@ impl ReaderState {
         ensures answer { IfSome (B.told backend.old)
             (λ b. Gives (directory_at (header_of self.now) b offset length) result) }
         ensures causes { LookUpCauses (B.faults backend.old) (B.faults backend.new) result }
+        ensures still { FaultsStand (B.faults backend.old) (B.faults backend.new) result }
         ensures kept { ReadsOnly B.told B.versions B.faults B.steady backend.old backend.new }
         ensures reads { GrewBetween (B.reads backend.old) (B.reads backend.new) (reads_done result)
             1 }
@@ -72,6 +74,7 @@ impl ReaderState {
         ensures answer { IfSome (B.told backend.old)
             (λ b. Gives (range_read b ((header_of self.now).data_offset + offset) length) result) }
         ensures causes { RangeCauses (B.faults backend.old) (B.faults backend.new) result }
+        ensures still { FaultsStand (B.faults backend.old) (B.faults backend.new) result }
         ensures kept { ReadsOnly B.told B.versions B.faults B.steady backend.old backend.new }
         ensures reads { GrewBetween (B.reads backend.old) (B.reads backend.new) (reads_done result)
             1 }
@@ -97,6 +100,8 @@ impl<'a, B: Backend, C: DirectoryCache> PmTilesReader<'a, B, C> {
             (λ b. Gives (directory_at (header_of self.new.state) b offset length) result) }
         ensures causes { LookUpCauses (B.faults self.old.backend.now)
             (B.faults self.new.backend.now) result }
+        ensures still { FaultsStand (B.faults self.old.backend.now)
+            (B.faults self.new.backend.now) result }
         ensures kept { ReadsOnly B.told B.versions B.faults B.steady self.old.backend.now
             self.new.backend.now }
         ensures reads { GrewBetween (B.reads self.old.backend.now) (B.reads self.new.backend.now)
@@ -117,6 +122,8 @@ impl<'a, B: Backend, C: DirectoryCache> PmTilesReader<'a, B, C> {
             result) }
         ensures causes { RangeCauses (B.faults self.old.backend.now) (B.faults self.new.backend.now)
             result }
+        ensures still { FaultsStand (B.faults self.old.backend.now)
+            (B.faults self.new.backend.now) result }
         ensures kept { ReadsOnly B.told B.versions B.faults B.steady self.old.backend.now
             self.new.backend.now }
         ensures reads { GrewBetween (B.reads self.old.backend.now) (B.reads self.new.backend.now)

@@ -1,6 +1,6 @@
 // Ranges of a backend's bytes.
 ghost use Rattle.std.specs.Prelude.{◌≡◌, ◌<◌, ◌+◌, ◌^◌, IfSome, IfOk, IsErrOf};
-ghost use Rattle.pm_reader.specs.Common.{SomeIff};
+ghost use Rattle.pm_reader.specs.Common.{SomeIff, FaultsStand};
 ghost use Rattle.pm_reader.specs.Answers.{Gives, HasTextAt, IsWhole, LookUpCauses, bytes_of, range_read};
 ghost use Rattle.pm_reader.specs.Reads.{GrewBetween, ReadsOnly, reads_done};
 
@@ -19,6 +19,7 @@ pub(crate) fn read_range<B: Backend>(
     ensures answer { IfSome (B.told backend.old)
         (λ b. Gives (range_read b (base + offset) length) (bytes_of result)) }
     ensures causes { LookUpCauses (B.faults backend.old) (B.faults backend.new) result }
+    ensures still { FaultsStand (B.faults backend.old) (B.faults backend.new) result }
     ensures whole { IfSome (B.told backend.old) (λ _. IsWhole result) }
     ensures plain { IsErrOf result PmtError.InvalidEntry → ⊥ }
     ensures version { IfOk result (HasTextAt (B.versions backend.old) (B.reads backend.new)) }

@@ -1,6 +1,6 @@
 // A reader that borrows its backend, and holds a cache of directories.
 ghost use Rattle.std.specs.Prelude.{◌≡◌, ◌≢◌, ◌<◌, ◌-◌, ◌^◌, ℕ, None, Err, false, IfSome, IfOk, IfErr};
-ghost use Rattle.pm_reader.specs.Common.{archive_tile, Grew, RestsIfErr, sem};
+ghost use Rattle.pm_reader.specs.Common.{archive_tile, Grew, RestsIfErr, sem, FaultsStand};
 ghost use Rattle.pm_format.specs.declared.error.PmtError.TheVariants as errors;
 ghost use Rattle.pm_format.specs.declared.error.ReadCause.TheVariants as causes;
 ghost use Rattle.pm_reader.specs.Answers.{Gives, IsWhole, LookUpCauses};
@@ -65,6 +65,7 @@ impl<'a, B: Backend> PmTilesReader<'a, B, NoCache> {
         ensures open { IfOk result (λ r. IsOpen (B.told backend.old) r.state) }
         ensures version { IfOk result
             (λ r. HasVersionOf (B.versions r.backend.now) (B.reads r.backend.now) r.state) }
+        ensures still { IfOk result (λ r. B.faults r.backend.now ≡ B.faults backend.old) }
         ensures kept { IfOk result
             (λ r. ReadsOnly B.told B.versions B.faults B.steady backend.old r.backend.now) }
         ensures reads { IfOk result (λ r. Grew (B.reads backend.old) (B.reads r.backend.now) 1) }
@@ -124,6 +125,7 @@ impl<'a, B: Backend, C: DirectoryCache> PmTilesReader<'a, B, C> {
         ensures cache { IfOk result (λ r. r.cache ≡ cache) }
         ensures version { IfOk result
             (λ r. HasVersionOf (B.versions r.backend.now) (B.reads r.backend.now) r.state) }
+        ensures still { IfOk result (λ r. B.faults r.backend.now ≡ B.faults backend.old) }
         ensures kept { IfOk result
             (λ r. ReadsOnly B.told B.versions B.faults B.steady backend.old r.backend.now) }
         ensures reads { IfOk result (λ r. Grew (B.reads backend.old) (B.reads r.backend.now) 1) }
@@ -169,6 +171,8 @@ impl<'a, B: Backend, C: DirectoryCache> PmTilesReader<'a, B, C> {
             → C.keeps_to self.new.cache l }
         ensures causes { LookUpCauses (B.faults self.old.backend.now)
             (B.faults self.new.backend.now) result }
+        ensures still { FaultsStand (B.faults self.old.backend.now)
+            (B.faults self.new.backend.now) result }
         ensures whole { IfSome (B.told self.old.backend.now) (λ _. IsWhole result) }
         ensures kept { ReadsOnly B.told B.versions B.faults B.steady self.old.backend.now
             self.new.backend.now }
@@ -193,6 +197,8 @@ impl<'a, B: Backend, C: DirectoryCache> PmTilesReader<'a, B, C> {
         ensures text { ComparesTexts (version_of self.new.state) (B.versions self.new.backend.now)
             (B.reads self.new.backend.now) result }
         ensures causes { UnmodifiedCauses (B.faults self.old.backend.now)
+            (B.faults self.new.backend.now) result }
+        ensures still { FaultsStand (B.faults self.old.backend.now)
             (B.faults self.new.backend.now) result }
         ensures whole { IfSome (B.told self.old.backend.now) (λ _. IsWhole result) }
         ensures hops { IfSome (B.told self.old.backend.now)
@@ -224,6 +230,8 @@ impl<'a, B: Backend, C: DirectoryCache> PmTilesReader<'a, B, C> {
             (B.reads self.new.backend.now) result }
         ensures causes { PlainCauses (header_of self.new.state).tile_compression
             (B.faults self.old.backend.now) (B.faults self.new.backend.now) result }
+        ensures still { FaultsStand (B.faults self.old.backend.now)
+            (B.faults self.new.backend.now) result }
         ensures whole { IfSome (B.told self.old.backend.now) (λ _. IsWhole result) }
         ensures hops { IfSome (B.told self.old.backend.now)
             (λ b. IsCacheable b (C.idle self.old.cache)
@@ -271,6 +279,7 @@ fn open_with<B: Backend, C: DirectoryCache + Drop>(
 ) -> PmtResult<(C, ReaderState)>
     ensures refused { IfErr result (λ e. IfSome (B.told backend.old) (λ b. OpenAnswers b (Err e))) }
     ensures causes { OpenCauses (B.faults backend.old) (B.faults backend.new) result }
+    ensures still { FaultsStand (B.faults backend.old) (B.faults backend.new) result }
     ensures open { IfOk result (λ p. IsOpen (B.told backend.new) p.1) }
     ensures cache { IfOk result (λ p. p.0 ≡ cache) }
     ensures version { IfOk result

@@ -1,6 +1,6 @@
 // The state of a reader: all that it owns, beside the backend that it borrows.
 ghost use Rattle.std.specs.Prelude.{◌≡◌, IfSome, IfOk, take};
-ghost use Rattle.pm_reader.specs.Common.{Grew};
+ghost use Rattle.pm_reader.specs.Common.{Grew, FaultsStand};
 ghost use Rattle.pm_reader.specs.Reads.{ReadsOnly};
 ghost use Rattle.pm_reader.specs.Opening.{FrontCauses, HasVersionOf, IsOpen, OpenAnswers, OpenCauses, header_of, root_of};
 
@@ -34,6 +34,7 @@ impl ReaderState {
         ensures answer { IfSome (B.told backend.old) (λ b. OpenAnswers b result) }
         ensures open { IfOk result (λ s. IsOpen (B.told backend.new) s) }
         ensures causes { OpenCauses (B.faults backend.old) (B.faults backend.new) result }
+        ensures still { FaultsStand (B.faults backend.old) (B.faults backend.new) result }
         ensures version { IfOk result
             (λ s. HasVersionOf (B.versions backend.new) (B.reads backend.new) s) }
         ensures kept { ReadsOnly B.told B.versions B.faults B.steady backend.old backend.new }
@@ -72,6 +73,7 @@ impl ReaderState {
 fn read_front<B: Backend>(alloc: Global, backend: &mut B) -> PmtResult<BackendResponse>
     ensures answer { IfSome (B.told backend.old) (λ b. IfOk result (λ r. r.bytes ≡ take 16384 b)) }
     ensures causes { FrontCauses (B.faults backend.old) (B.faults backend.new) result }
+    ensures still { FaultsStand (B.faults backend.old) (B.faults backend.new) result }
     ensures version { IfSome (B.versions backend.old)
         (λ text. IfOk result (λ r. r.data_version_string ≡ text (B.reads backend.new))) }
     ensures kept { ReadsOnly B.told B.versions B.faults B.steady backend.old backend.new }

@@ -1,7 +1,7 @@
 // The document that an archive says of itself.
 ghost use Rattle.std.specs.Prelude.{◌≡◌, IfSome};
 ghost use Rattle.pm_format.specs.TileJson.{tilejson_of};
-ghost use Rattle.pm_reader.specs.Common.{tilejson_in};
+ghost use Rattle.pm_reader.specs.Common.{tilejson_in, FaultsStand};
 ghost use Rattle.pm_reader.specs.Metadata.{metadata_read};
 ghost use Rattle.pm_reader.specs.Opening.{header_of};
 ghost use Rattle.pm_reader.specs.Reads.{GrewBetween, ReadsOnly};
@@ -25,6 +25,7 @@ impl ReaderState {
             (λ b. DocumentAnswers (metadata_read b (header_of self.now))
             (tilejson_of (header_of self.now) sources.items) result) }
         ensures causes { DocumentCauses (B.faults backend.old) (B.faults backend.new) result }
+        ensures still { FaultsStand (B.faults backend.old) (B.faults backend.new) result }
         ensures kept { ReadsOnly B.told B.versions B.faults B.steady backend.old backend.new }
         ensures reads { GrewBetween (B.reads backend.old) (B.reads backend.new) 0 1 }
     {
@@ -60,6 +61,8 @@ impl<'a, B: Backend, C: DirectoryCache> PmTilesReader<'a, B, C> {
             (λ b. DocumentAnswers (metadata_read b (header_of self.new.state))
             (tilejson_of (header_of self.new.state) sources.items) result) }
         ensures causes { DocumentCauses (B.faults self.old.backend.now)
+            (B.faults self.new.backend.now) result }
+        ensures still { FaultsStand (B.faults self.old.backend.now)
             (B.faults self.new.backend.now) result }
         ensures kept { ReadsOnly B.told B.versions B.faults B.steady self.old.backend.now
             self.new.backend.now }

@@ -1,6 +1,6 @@
 // Tiles by the state of a reader, over a backend that isn't borrowed any longer than the call.
 ghost use Rattle.std.specs.Prelude.{◌≡◌, IfSome};
-ghost use Rattle.pm_reader.specs.Common.{archive_tile};
+ghost use Rattle.pm_reader.specs.Common.{archive_tile, FaultsStand};
 ghost use Rattle.pm_reader.specs.Answers.{IsWhole};
 ghost use Rattle.pm_reader.specs.Archives.{IsCacheable, ReadsByHops};
 ghost use Rattle.pm_reader.specs.Caches.{CacheLimits};
@@ -26,6 +26,7 @@ impl ReaderState {
         ensures text { ComparesTexts (version_of self.now) (B.versions backend.new)
             (B.reads backend.new) result }
         ensures causes { UnmodifiedCauses (B.faults backend.old) (B.faults backend.new) result }
+        ensures still { FaultsStand (B.faults backend.old) (B.faults backend.new) result }
         ensures whole { IfSome (B.told backend.old) (λ _. IsWhole result) }
         ensures hops { IfSome (B.told backend.old)
             (λ b. ReadsByHops b tile_id (B.reads backend.old) (B.reads backend.new)) }
@@ -55,6 +56,7 @@ impl ReaderState {
         ensures text { ComparesTexts (version_of self.now) (B.versions backend.new)
             (B.reads backend.new) result }
         ensures causes { UnmodifiedCauses (B.faults backend.old) (B.faults backend.new) result }
+        ensures still { FaultsStand (B.faults backend.old) (B.faults backend.new) result }
         ensures whole { IfSome (B.told backend.old) (λ _. IsWhole result) }
         ensures hops { IfSome (B.told backend.old)
             (λ b. IsCacheable b (C.idle cache.old)
@@ -84,6 +86,7 @@ impl ReaderState {
             (B.reads backend.new) result }
         ensures causes { PlainCauses (header_of self.now).tile_compression (B.faults backend.old)
             (B.faults backend.new) result }
+        ensures still { FaultsStand (B.faults backend.old) (B.faults backend.new) result }
         ensures whole { IfSome (B.told backend.old) (λ _. IsWhole result) }
         ensures hops { IfSome (B.told backend.old)
             (λ b. ReadsByHops b tile_id (B.reads backend.old) (B.reads backend.new)) }

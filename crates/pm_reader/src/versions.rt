@@ -7,6 +7,7 @@ ghost use Rattle.pm_reader.specs.Opening.{version_of};
 ghost use Rattle.pm_reader.specs.Reads.{GrewBetween, ReadsOnly, reads_for};
 ghost use Rattle.pm_reader.specs.Versions.{ComparesTexts, IsCompared, UnmodifiedCauses};
 ghost use Rattle.pm_reader.specs.Way.{FindsUnmodified};
+ghost use Rattle.pm_reader.specs.Common.{FaultsStand};
 
 use crate::{DirectoryCache, ReaderState};
 use bytes::Bytes;
@@ -52,6 +53,7 @@ impl ReaderState {
         ensures idle { C.idle cache.old → C.idle cache.new }
         ensures limits { (l : CacheLimits) → C.keeps_to cache.old l → C.keeps_to cache.new l }
         ensures causes { UnmodifiedCauses (B.faults backend.old) (B.faults backend.new) result }
+        ensures still { FaultsStand (B.faults backend.old) (B.faults backend.new) result }
         ensures whole { IfSome (B.told backend.old) (λ _. IsWhole result) }
         ensures kept { ReadsOnly B.told B.versions B.faults B.steady backend.old backend.new }
         ensures reads { GrewBetween (B.reads backend.old) (B.reads backend.new) (reads_for result)

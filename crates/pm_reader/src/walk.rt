@@ -1,11 +1,11 @@
 // A walk along all entries, by a queue of directories.
 ghost use Rattle.std.specs.Prelude.{◌≡◌, ◌≤◌, ◌<◌, ◌+◌, ◌^◌, ◌++◌, ℕ, List, [], None, true, false, length, IfSome, IfErr, OnOk, OnErr};
-ghost use Rattle.pm_reader.specs.Common.{leaf_of, option_to_list};
+ghost use Rattle.pm_reader.specs.Common.{leaf_of, option_to_list, FaultsStand};
 ghost use Rattle.pm_reader.specs.Answers.{Gives, LookUpCauses};
 ghost use Rattle.pm_reader.specs.Opening.{OpensAs};
 ghost use Rattle.pm_reader.specs.Reads.{GrewBetween, ReadsOnly, reads_done};
 ghost use Rattle.pm_reader.specs.Walk.{walk};
-ghost use Rattle.pm_reader.specs.WalkSteps.{Enters, IsRefused, Spends, WalkCauses, Yields, budget_of, has_ended, left_at_most, left_of, queue_of};
+ghost use Rattle.pm_reader.specs.WalkSteps.{Enters, IsRefused, Spends, WalkCauses, Yields, budget_of, has_ended, left_at_most, left_of, queue_of, StepStands};
 
 use crate::ReaderState;
 use crate::leaves::read_leaf;
@@ -81,6 +81,7 @@ impl WalkState {
         ensures budget { self.new.budget + 1 ≡ self.old.budget }
         ensures ended { self.new.ended ≡ self.old.ended }
         ensures causes { LookUpCauses (B.faults backend.old) (B.faults backend.new) result }
+        ensures still { FaultsStand (B.faults backend.old) (B.faults backend.new) result }
         ensures kept { ReadsOnly B.told B.versions B.faults B.steady backend.old backend.new }
         ensures reads { GrewBetween (B.reads backend.old) (B.reads backend.new) (reads_done result)
             1 }
@@ -115,6 +116,7 @@ impl WalkState {
         ensures items { IfSome (B.told backend.old)
             (λ b. Yields (left_of b self.old) result (left_of b self.new)) }
         ensures causes { WalkCauses (B.faults backend.old) (B.faults backend.new) result }
+        ensures still { StepStands (B.faults backend.old) (B.faults backend.new) result }
         ensures spends { Spends (budget_of self.old) (budget_of self.new) (B.reads backend.old)
             (B.reads backend.new) result }
         ensures ends { IfSome result (λ item. OnErr item (has_ended self.new ≡ true)) }

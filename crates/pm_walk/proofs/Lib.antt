@@ -7,6 +7,7 @@ pub mod ClippingLemmas
 pub mod PartingLemmas
 pub mod CoveringLemmas
 pub mod CollectLemmas
+pub mod FaultLemmas
 pub mod LyingLemmas
 pub mod TestingLemmas
 pub mod TakingLemmas

@@ -1,6 +1,7 @@
 -- Parts that are collected while there is room for their tiles.
 use Rattle.std.specs.Prelude.{◌≡◌, ◌≢◌, ℕ, ◌+◌, ◌-◌, ◌≤◌, ◌<◌, true, List, [], ◌∷◌, ◌++◌, nat_le, if◌then◌else◌, Option, Some, None, is_some, Result, Ok, Err, IfSome, length, map, unwrap_or}
 use Rattle.pm_walk.specs.Common.{Entry, Header, leaf_of, LookUpCauses, MAX_TILE_ID, range_of}
+use Rattle.pm_format.specs.Faults.{StandsAtError}
 use Rattle.pm_format.specs.declared.error.PmtError.TheVariants as errors
 use Rattle.pm_format.specs.declared.error.ReadCause.TheVariants as causes
 use Rattle.pm_walk.specs.Collected.{Collected}
@@ -127,3 +128,13 @@ StopCauses k before now (Archive e) = LookUpCauses {A = Unit {0}} before now (Er
 StopCauses k before now TooManyTiles = Unit {0}
 StopCauses Within before now x = ⊥
 StopCauses Whole before now x = IsOfRun x
+
+-- an error of a walk leaves the count of faults as it is, but for a fault and want of memory
+abbrev pub StandsAtStop : ℕ → ℕ → WalkError → Type 0
+StandsAtStop before now (Archive e) = StandsAtError before now e
+StandsAtStop before now x = now ≡ before
+
+-- so does what a walk answers
+abbrev pub WalkStands : {A : Type 0} → ℕ → ℕ → Result A WalkError → Type 0
+WalkStands before now (Ok x) = now ≡ before
+WalkStands before now (Err x) = StandsAtStop before now x

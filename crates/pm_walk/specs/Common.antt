@@ -1,5 +1,6 @@
 -- What the crate's specs and sources name of the crates below, passed on from one place. Declares nothing.
 pub use Rattle.pm_format.specs.Directory.{Entry, entry}
+pub use Rattle.pm_format.specs.Faults.{FaultsStand}
 pub use Rattle.pm_format.specs.LookUp.{leaf_of, range_of}
 pub use Rattle.pm_format.specs.declared.error.PmtError.{PmtError}
 pub use Rattle.pm_format.specs.declared.header.Header.{Header}

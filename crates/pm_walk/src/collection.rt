@@ -1,7 +1,7 @@
 // The tile entries of an archive that opens.
 ghost use Rattle.std.specs.Prelude.{◌≡◌, ◌≤◌, ◌+◌, true, [], None, Ok, Err, IfSome, IfOk, IfErr, is_some};
 ghost use Rattle.pm_walk.specs.Common.{header_of, ReadsOnly, root_of};
-ghost use Rattle.pm_walk.specs.Collecting.{AllLieIn, AreOrdered, StopCauses};
+ghost use Rattle.pm_walk.specs.Collecting.{AllLieIn, AreOrdered, StopCauses, WalkStands};
 ghost use Rattle.pm_walk.specs.Gathered.{HoldsGiven, IsGathered};
 ghost use Rattle.pm_walk.specs.Gathering.{Gathers};
 ghost use Rattle.pm_walk.specs.Intervals.{AreApart};
@@ -47,6 +47,7 @@ fn gather<B: Backend, T: TakesEntries + Drop>(
         (root_of state.now)) intervals.now max_tiles (Err x))) }
     ensures causes { IfErr result (StopCauses extent (B.faults backend.old)
         (B.faults backend.new)) }
+    ensures still { WalkStands (B.faults backend.old) (B.faults backend.new) result }
     ensures kept { ReadsOnly B.told B.versions B.faults B.steady backend.old backend.new }
     ensures reads { IfSome (B.told backend.old) (λ b. B.reads backend.new
         ≤ B.reads backend.old + (walked extent 6 (header_of state.now) b intervals.now 0 None
@@ -133,6 +134,7 @@ pub fn collect<B: Backend>(
     ensures within { IfOk result (λ parts. AllLieIn intervals.now parts.items) }
     ensures causes { IfErr result (StopCauses Extent.Within (B.faults backend.old)
         (B.faults backend.new)) }
+    ensures still { WalkStands (B.faults backend.old) (B.faults backend.new) result }
     ensures kept { ReadsOnly B.told B.versions B.faults B.steady backend.old backend.new }
     ensures reads { IfSome (B.told backend.old) (λ b. B.reads backend.new
         ≤ B.reads backend.old + (walked Extent.Within 6 (header_of state.now) b intervals.now 0
@@ -167,6 +169,7 @@ pub fn take_entries<B: Backend, T: TakesEntries + Drop>(
         (Err x))) }
     ensures causes { IfErr result (StopCauses Extent.Whole (B.faults backend.old)
         (B.faults backend.new)) }
+    ensures still { WalkStands (B.faults backend.old) (B.faults backend.new) result }
     ensures kept { ReadsOnly B.told B.versions B.faults B.steady backend.old backend.new }
     ensures reads { IfSome (B.told backend.old) (λ b. B.reads backend.new ≤ B.reads backend.old
         + (all_walked b (header_of state.now, root_of state.now)).reads) }

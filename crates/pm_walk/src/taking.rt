@@ -2,7 +2,7 @@
 ghost use Rattle.std.specs.Prelude.{◌≡◌, ◌≢◌, ◌+◌, ◌≤◌, ℕ, List, Option, [], IfSome, IfOk, IfErr};
 ghost use Rattle.pm_walk.specs.Common.{Header, header_of, ReadsOnly};
 ghost use Rattle.pm_walk.specs.Collected.{Collected};
-ghost use Rattle.pm_walk.specs.Collecting.{StopCauses};
+ghost use Rattle.pm_walk.specs.Collecting.{StopCauses, WalkStands};
 ghost use Rattle.pm_walk.specs.Steps.{TakesTile};
 ghost use Rattle.pm_walk.specs.Taker.{Holds};
 ghost use Rattle.pm_walk.specs.Taking.{IsTaken, Takes, behind_range};
@@ -45,6 +45,7 @@ fn read_whole<B: Backend>(
     ensures taken { IfOk result (IsTaken room entry) }
     ensures causes { IfErr result (StopCauses Extent.Whole (B.faults backend.old)
         (B.faults backend.new)) }
+    ensures still { WalkStands (B.faults backend.old) (B.faults backend.new) result }
     ensures kept { ReadsOnly B.told B.versions B.faults B.steady backend.old backend.new }
     ensures reads { B.reads backend.new ≤ B.reads backend.old + 1 }
 {
@@ -77,6 +78,7 @@ fn take_whole<B: Backend, T: TakesEntries>(
         collecting.new.taker collecting.new.room result }
     ensures causes { IfErr result (StopCauses Extent.Whole (B.faults backend.old)
         (B.faults backend.new)) }
+    ensures still { WalkStands (B.faults backend.old) (B.faults backend.new) result }
     ensures kept { ReadsOnly B.told B.versions B.faults B.steady backend.old backend.new }
     ensures reads { B.reads backend.new ≤ B.reads backend.old + 1 }
 {
@@ -128,6 +130,7 @@ pub(crate) fn take<B: Backend, T: TakesEntries>(
         collecting.new.taker collecting.new.room result }
     ensures causes { IfErr result (StopCauses extent (B.faults backend.old)
         (B.faults backend.new)) }
+    ensures still { WalkStands (B.faults backend.old) (B.faults backend.new) result }
     ensures kept { ReadsOnly B.told B.versions B.faults B.steady backend.old backend.new }
     ensures reads { B.reads backend.new ≤ B.reads backend.old + tile_reads extent }
 {

@@ -1,6 +1,6 @@
 // The tests of a tile entry where the whole is walked.
 ghost use Rattle.std.specs.Prelude.{◌≡◌, ◌≢◌, ◌+◌, IfSome};
-ghost use Rattle.pm_walk.specs.Common.{GrewBetween, header_of, range_of, RangeCauses, reads_done, ReadsOnly};
+ghost use Rattle.pm_walk.specs.Common.{GrewBetween, header_of, range_of, RangeCauses, reads_done, ReadsOnly, FaultsStand};
 ghost use Rattle.pm_walk.specs.Testing.{IsOfRun, RangeTests};
 ghost use Rattle.pm_walk.specs.Walk.{run_refusal};
 
@@ -23,6 +23,7 @@ pub fn test_range<B: Backend>(
         (λ b. RangeTests (range_of b ((header_of state.now).data_offset + entry.offset)
         entry.length) result) }
     ensures causes { RangeCauses (B.faults backend.old) (B.faults backend.new) result }
+    ensures still { FaultsStand (B.faults backend.old) (B.faults backend.new) result }
     ensures kept { ReadsOnly B.told B.versions B.faults B.steady backend.old backend.new }
     ensures reads { GrewBetween (B.reads backend.old) (B.reads backend.new) (reads_done result) 1 }
 {

@@ -2,7 +2,7 @@
 ghost use Rattle.std.specs.Prelude.{◌≡◌, ◌≢◌, ◌+◌, ◌≤◌, true, IfSome, IfOk, IfErr};
 ghost use Rattle.pm_walk.specs.Common.{header_of, ReadsOnly};
 ghost use Rattle.pm_walk.specs.Collected.{Collected};
-ghost use Rattle.pm_walk.specs.Collecting.{MeetReads, StopCauses};
+ghost use Rattle.pm_walk.specs.Collecting.{MeetReads, StopCauses, WalkStands};
 ghost use Rattle.pm_walk.specs.Intervals.{stays_within};
 ghost use Rattle.pm_walk.specs.Steps.{MeetsEntry, WalksAll};
 ghost use Rattle.pm_walk.specs.Taker.{Holds};
@@ -79,6 +79,7 @@ fn meet<B: Backend, T: TakesEntries>(
     ensures deep { IfOk result (λ leaf. IfSome leaf (λ _. left ≢ 0)) }
     ensures causes { IfErr result (StopCauses extent (B.faults backend.old)
         (B.faults backend.new)) }
+    ensures still { WalkStands (B.faults backend.old) (B.faults backend.new) result }
     ensures kept { ReadsOnly B.told B.versions B.faults B.steady backend.old backend.new }
     ensures reads { IfSome (B.told backend.old)
         (λ b. MeetReads (entry_walk extent (below extent left
@@ -119,6 +120,7 @@ pub(crate) fn walk<B: Backend, T: TakesEntries>(
         (B.reads backend.old) (B.reads backend.new) result }
     ensures causes { IfErr result (StopCauses extent (B.faults backend.old)
         (B.faults backend.new)) }
+    ensures still { WalkStands (B.faults backend.old) (B.faults backend.new) result }
     ensures kept { ReadsOnly B.told B.versions B.faults B.steady backend.old backend.new }
 {
     let mut before = None;

@@ -9,6 +9,7 @@ pub use Rattle.pm_contents.specs.Sought.{FoundAs, IsSought, piece_sought, place_
 pub use Rattle.pm_format.specs.Directory.{DirFits, Entry, entry, IsWritable, wide_as}
 unfoldable pub use Rattle.pm_format.specs.Directory.{dir_bytes, dir_of}
 unfoldable pub use Rattle.pm_format.specs.Header.{head}
+pub use Rattle.pm_format.specs.Faults.{FaultsStand}
 pub use Rattle.pm_format.specs.LookUp.{archive_map, archive_tile, data_of, hops, leaf_of, range_of}
 unfoldable pub use Rattle.pm_format.specs.LookUp.{reached, tile_by}
 pub use Rattle.pm_format.specs.Opened.{Opened}

@@ -1,6 +1,6 @@
 // Adds to an archive that is begun.
 ghost use Rattle.std.specs.Prelude.{◌≡◌, ◌≤◌, ◌<◌, ◌+◌, ◌^◌, ℕ, List, [], ◌∷◌, ◌++◌, false, length, None, Err, IfOk, IfErr, OnOk, IsTrue, IsFalse};
-ghost use Rattle.pm_writer.specs.Common.{FoundAs, id_of, IsSought, KeepsMedium, MAX_TILE_ID, Options, piece_sought, place_sought, ReadsOnly, xxh3_64};
+ghost use Rattle.pm_writer.specs.Common.{FoundAs, id_of, IsSought, KeepsMedium, MAX_TILE_ID, Options, piece_sought, place_sought, ReadsOnly, xxh3_64, FaultsStand};
 ghost use Rattle.pm_writer.specs.Adding.{IsAdded, IsCaused, IsQuiet, IsUnadded, TakenFor, WhereWrites, WritesSome};
 ghost use Rattle.pm_format.specs.declared.compression.Compression.TheVariants as compression;
 ghost use Rattle.pm_writer.specs.Causes.{AddCauses, failed_after};
@@ -45,6 +45,7 @@ impl WriterState {
             (λ o adds. Writes o (M.told medium.new) self.new adds) }
         ensures causes { IfErr result
             (λ e. PutCauses (M.faults medium.old) (M.faults medium.new) (Err e)) }
+        ensures still { FaultsStand (M.faults medium.old) (M.faults medium.new) result }
         ensures alive { OnOk result (has_failed self.new ≡ false) }
         ensures failed { IfErr result (λ e. has_failed self.new ≡ failed_after false (Err e)) }
         ensures counted { M.reads medium.old ≤ M.reads medium.new }
@@ -89,6 +90,7 @@ impl WriterState {
             × Writes o (M.told medium.new) self.new (adds ++ (id, taken) ∷ [])) }
         ensures refused { IsUnadded M.told medium.old medium.new self.old self.new result }
         ensures causes { PutCauses (M.faults medium.old) (M.faults medium.new) result }
+        ensures still { FaultsStand (M.faults medium.old) (M.faults medium.new) result }
         ensures failed { has_failed self.new ≡ failed_after false result }
         ensures reads { M.reads medium.new ≡ M.reads medium.old }
         ensures kept { KeepsMedium M.told M.versions M.reads M.faults M.steady
@@ -128,6 +130,7 @@ impl WriterState {
             TakenFor M.told M.reads medium.old medium.new bytes.now
             (λ taken. AddCauses compression.None false (length bytes.now)
             (FilledFits o adds id taken) (M.faults medium.old) (M.faults medium.new) result)) }
+        ensures still { FaultsStand (M.faults medium.old) (M.faults medium.new) result }
         ensures failed { has_failed self.new ≡ failed_after false result }
         ensures reads { M.reads medium.new ≤ M.reads medium.old + 1 }
         ensures quiet { IsQuiet M.told M.reads medium.old medium.new self.old bytes.now }
@@ -170,6 +173,7 @@ impl WriterState {
         ensures refused { IsUnadded M.told medium.old medium.new self.old self.new result }
         ensures causes { IsCaused (λ _. compression.None) M.told M.reads M.faults
             medium.old medium.new self.old id bytes.now result }
+        ensures still { FaultsStand (M.faults medium.old) (M.faults medium.new) result }
         ensures empty { length bytes.now ≡ 0 → (self.new ≡ self.old) × (medium.new ≡ medium.old) }
         ensures failed { has_failed self.new ≡ failed_after (has_failed self.old) result }
         ensures reads { M.reads medium.new ≤ M.reads medium.old + 1 }
@@ -197,6 +201,7 @@ impl WriterState {
         ensures refused { IsUnadded M.told medium.old medium.new self.old self.new result }
         ensures causes { IsCaused (λ _. compression.None) M.told M.reads M.faults
             medium.old medium.new self.old id bytes.now result }
+        ensures still { FaultsStand (M.faults medium.old) (M.faults medium.new) result }
         ensures empty { length bytes.now ≡ 0 → (self.new ≡ self.old) × (medium.new ≡ medium.old) }
         ensures failed { has_failed self.new ≡ failed_after (has_failed self.old) result }
         ensures reads { M.reads medium.new ≤ M.reads medium.old + 1 }
@@ -227,6 +232,7 @@ impl WriterState {
         ensures refused { IsUnadded M.told medium.old medium.new self.old self.new result }
         ensures causes { IsCaused (λ _. compression.None) M.told M.reads M.faults
             medium.old medium.new self.old (id_of coord) bytes.now result }
+        ensures still { FaultsStand (M.faults medium.old) (M.faults medium.new) result }
         ensures empty { length bytes.now ≡ 0 → (self.new ≡ self.old) × (medium.new ≡ medium.old) }
         ensures failed { has_failed self.new ≡ failed_after (has_failed self.old) result }
         ensures reads { M.reads medium.new ≤ M.reads medium.old + 1 }
@@ -252,6 +258,7 @@ impl WriterState {
         ensures refused { IsUnadded M.told medium.old medium.new self.old self.new result }
         ensures causes { IsCaused (λ o. o.tile_compression) M.told M.reads M.faults
             medium.old medium.new self.old (id_of coord) bytes.now result }
+        ensures still { FaultsStand (M.faults medium.old) (M.faults medium.new) result }
         ensures empty { length bytes.now ≡ 0 → (self.new ≡ self.old) × (medium.new ≡ medium.old) }
         ensures failed { has_failed self.new ≡ failed_after (has_failed self.old) result }
         ensures reads { M.reads medium.new ≤ M.reads medium.old + 1 }

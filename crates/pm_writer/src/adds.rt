@@ -136,6 +136,7 @@ impl Adds {
             → M.reads medium.new ≡ M.reads medium.old }
         ensures cause { IsErrOf result WriteFault.Fault
             → Rose (M.faults medium.old) (M.faults medium.new) }
+        ensures still { OnOk result (M.faults medium.new ≡ M.faults medium.old) }
         ensures counted { M.reads medium.old ≤ M.reads medium.new }
         ensures reads { M.reads medium.new ≤ M.reads medium.old + 1 }
         ensures kept { ReadsOnly M.told M.versions M.faults M.steady medium.old medium.new }
@@ -176,6 +177,7 @@ impl Adds {
             (piece_sought sought bytes.now) result (M.told medium.old) (M.told medium.new) }
         ensures cause { IsErrOf result WriteFault.Fault
             → Rose (M.faults medium.old) (M.faults medium.new) }
+        ensures still { OnOk result (M.faults medium.new ≡ M.faults medium.old) }
         ensures reads { M.reads medium.new ≡ M.reads medium.old }
         ensures kept { KeepsMedium M.told M.versions M.reads M.faults M.steady
             medium.old medium.new }

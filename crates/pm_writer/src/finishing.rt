@@ -1,6 +1,6 @@
 // The end of an archive: its directories and its header.
 ghost use Rattle.std.specs.Prelude.{◌≡◌, ◌<◌, ◌^◌, ℕ, List, sum_by, IfSome, IfOk, OnOk};
-ghost use Rattle.pm_writer.specs.Common.{KeepsMedium, Options};
+ghost use Rattle.pm_writer.specs.Common.{KeepsMedium, Options, FaultsStand};
 ghost use Rattle.pm_writer.specs.Adding.{WhereWrites, WritesSome};
 ghost use Rattle.pm_writer.specs.Archive.{archive};
 ghost use Rattle.pm_writer.specs.Causes.{AssembleCauses, FinishCauses};
@@ -107,6 +107,7 @@ impl WriterState {
             (λ o adds. IfSome (M.told medium.new) (IsHiddenOr (archive o adds))) }
         ensures causes { WhereWrites (M.told medium.old) self (λ o adds. FinishCauses o adds
             (has_failed self) (M.faults medium.old) (M.faults medium.new) result) }
+        ensures still { FaultsStand (M.faults medium.old) (M.faults medium.new) result }
         ensures reads { M.reads medium.new ≡ M.reads medium.old }
         ensures kept { KeepsMedium M.told M.versions M.reads M.faults M.steady
             medium.old medium.new }

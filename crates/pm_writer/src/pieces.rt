@@ -1,6 +1,6 @@
 // Pieces that are written to a medium, and the order in which an archive is finished.
 ghost use Rattle.std.specs.Prelude.{◌≡◌, ◌≤◌, ◌<◌, ◌+◌, ◌^◌, length, IfSome, OnOk, IsErrOf};
-ghost use Rattle.pm_writer.specs.Common.{BothTold, EndsBelow, IsWithin, KeepsMedium, written, WroteFront};
+ghost use Rattle.pm_writer.specs.Common.{BothTold, EndsBelow, IsWithin, KeepsMedium, written, WroteFront, FaultsStand};
 ghost use Rattle.pm_writer.specs.Pieces.{IsHiddenOr, IsOpenTo, PutCauses, finished};
 
 use pm_format::{Header, Medium, PmtError, PmtResult, ReadCause, WriteFault};
@@ -15,6 +15,7 @@ pub(crate) fn put<M: Medium>(medium: &mut M, offset: u64, piece: &[u8]) -> PmtRe
     ensures memory { IsErrOf result PmtError.OutOfMemory
         → BothTold (λ b c. c ≡ b) (M.told medium.old) (M.told medium.new) }
     ensures causes { PutCauses (M.faults medium.old) (M.faults medium.new) result }
+    ensures still { FaultsStand (M.faults medium.old) (M.faults medium.new) result }
     ensures reads { M.reads medium.new ≡ M.reads medium.old }
     ensures kept { KeepsMedium M.told M.versions M.reads M.faults M.steady medium.old medium.new }
 {
@@ -45,6 +46,7 @@ pub(crate) fn write_parts<M: Medium>(
     ensures shown { BothTold (λ b c. IsHiddenOr (finished b below.now root.now header.now) c)
         (M.told medium.old) (M.told medium.new) }
     ensures causes { PutCauses (M.faults medium.old) (M.faults medium.new) result }
+    ensures still { FaultsStand (M.faults medium.old) (M.faults medium.new) result }
     ensures reads { M.reads medium.new ≡ M.reads medium.old }
     ensures kept { KeepsMedium M.told M.versions M.reads M.faults M.steady medium.old medium.new }
 {

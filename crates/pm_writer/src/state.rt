@@ -1,7 +1,7 @@
 // The state of a writer: all that it owns, beside the medium that it borrows.
 ghost use Rattle.std.specs.Prelude.{◌≡◌, ◌≢◌, ◌≤◌, ◌<◌, ◌+◌, ℕ, List, [], Option, false, IfSome, IfOk, OnOk, is_some};
 ghost use Rattle.pm_format.specs.declared.compression.Compression.TheVariants as compression;
-ghost use Rattle.pm_writer.specs.Common.{Options};
+ghost use Rattle.pm_writer.specs.Common.{Options, FaultsStand};
 ghost use Rattle.pm_writer.specs.Causes.{CreateCauses};
 ghost use Rattle.pm_writer.specs.Pieces.{IsHidden};
 ghost use Rattle.pm_writer.specs.Writing.{Writes, has_failed, room, zeros};
@@ -60,6 +60,7 @@ impl PmTilesWriter {
         ensures alive { IfOk result (λ s. has_failed s ≡ false) }
         ensures causes { CreateCauses self.now.internal_compression
             (M.faults medium.old) (M.faults medium.new) result }
+        ensures still { FaultsStand (M.faults medium.old) (M.faults medium.new) result }
         ensures hidden { IfSome (M.told medium.new) IsHidden }
         ensures refused { self.now.internal_compression ≢ compression.None
             → medium.new ≡ medium.old }

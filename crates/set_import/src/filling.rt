@@ -1,5 +1,5 @@
 // A store that is filled from an archive.
-ghost use Rattle.std.specs.Prelude.{◌≡◌, ◌≤◌, ◌+◌, IfErr, IfOk, IfSome, false, true};
+ghost use Rattle.std.specs.Prelude.{◌≡◌, ◌≤◌, ◌+◌, IfErr, IfOk, IfSome, OnOk, false, true};
 ghost use Rattle.set_import.specs.Common.{count_in, ImportCauses, IsAnswered, IsLoadedFrom, IsPutAnswer, IsWithoutFloat, Keeps, PutCauses, reads_at_most, ReadsOnly, Tables};
 ghost use Rattle.set_import.specs.Filling.{IsFilled, IsFilledSet, IsLeft, is_unwritten, started};
 
@@ -28,6 +28,7 @@ fn filled_set<B: Backend>(
         (λ r. IsFilledSet (B.told backend.old) document.now base r.0 r.1) }
     ensures loaded { (t : Tables) → IsLoadedFrom t base → IfOk result (λ r. IsLoadedFrom t r.0) }
     ensures kept { ReadsOnly B.told B.versions B.faults B.steady backend.old backend.new }
+    ensures still { OnOk result (B.faults backend.new ≡ B.faults backend.old) }
     ensures reads { IfSome (B.told backend.old) (λ b. B.reads backend.new
         ≤ B.reads backend.old + reads_at_most b) }
 {
@@ -64,6 +65,8 @@ pub(crate) fn fill<B: Backend, S: TileStore>(
         (IsLeft (S.told store.old) (S.told store.new)) }
     ensures backend_kept { ReadsOnly B.told B.versions B.faults B.steady backend.old backend.new }
     ensures store_kept { Keeps S.tells S.faults S.steady store.old store.new }
+    ensures backend_still { OnOk result (B.faults backend.new ≡ B.faults backend.old) }
+    ensures store_still { OnOk result (S.faults store.new ≡ S.faults store.old) }
     ensures reads { IfSome (B.told backend.old) (λ b. B.reads backend.new
         ≤ B.reads backend.old + reads_at_most b) }
 {

@@ -1,5 +1,5 @@
 // A set that is made of an archive.
-ghost use Rattle.std.specs.Prelude.{◌≡◌, ◌≤◌, ◌+◌, IfErr, IfOk, IfSome, false, true};
+ghost use Rattle.std.specs.Prelude.{◌≡◌, ◌≤◌, ◌+◌, IfErr, IfOk, IfSome, OnOk, false, true};
 ghost use Rattle.set_import.specs.Common.{Keeps, reads_at_most, ReadsOnly};
 ghost use Rattle.set_import.specs.Filling.{IsAnsweredAs, IsLeft, IsMade, MadeCauses, is_unwritten};
 
@@ -44,6 +44,8 @@ pub fn import_as_said<B: Backend, S: TileStore>(
         (IsLeft (S.told store.old) (S.told store.new)) }
     ensures backend_kept { ReadsOnly B.told B.versions B.faults B.steady backend.old backend.new }
     ensures store_kept { Keeps S.tells S.faults S.steady store.old store.new }
+    ensures backend_still { OnOk result (B.faults backend.new ≡ B.faults backend.old) }
+    ensures store_still { OnOk result (S.faults store.new ≡ S.faults store.old) }
     ensures reads { IfSome (B.told backend.old) (λ b. B.reads backend.new
         ≤ B.reads backend.old + (2 + reads_at_most b)) }
 {

@@ -1,5 +1,5 @@
 // What an archive says of itself.
-ghost use Rattle.std.specs.Prelude.{◌≤◌, ◌+◌, IfErr, IfOk, IfSome};
+ghost use Rattle.std.specs.Prelude.{◌≡◌, ◌≤◌, ◌+◌, IfErr, IfOk, IfSome, OnOk};
 ghost use Rattle.set_import.specs.Common.{GrewBetween, IsWithoutFloat, metadata_read, ReadsOnly};
 ghost use Rattle.pm_reader.specs.Opening.{header_of};
 ghost use Rattle.pm_reader.specs.TileJson.{DocumentCauses};
@@ -35,6 +35,7 @@ fn document_of<B: Backend>(
     ensures causes { DocumentCauses (B.faults backend.old) (B.faults backend.new) result }
     ensures whole { IfOk result IsWithoutFloat }
     ensures kept { ReadsOnly B.told B.versions B.faults B.steady backend.old backend.new }
+    ensures still { OnOk result (B.faults backend.new ≡ B.faults backend.old) }
     ensures reads { GrewBetween (B.reads backend.old) (B.reads backend.new) 0 1 }
 {
     match reader.get_metadata(backend) {
@@ -54,6 +55,7 @@ pub(crate) fn said_document<B: Backend>(
     ensures causes { IfErr result (SaidCauses (B.faults backend.old) (B.faults backend.new)) }
     ensures whole { IfOk result IsWithoutFloat }
     ensures kept { ReadsOnly B.told B.versions B.faults B.steady backend.old backend.new }
+    ensures still { OnOk result (B.faults backend.new ≡ B.faults backend.old) }
     ensures reads { B.reads backend.new ≤ B.reads backend.old + 2 }
 {
     let reader = match ReaderState::open(alloc, backend) {

@@ -17,6 +17,7 @@ pub record Folded {P : Type 0} (tell : P → Bool) (tables : P → Tables) (fail
   pub rest : AllTell (map tell old) → all_patched force 1 base.state (map tables old) ≡ all_patched force (n + 1) set.state (drop n (map tables old))
   pub some : IsPatchedByAll force (take n (map tell old)) (take n (map tables old)) base set
   pub loaded : (t : Tables) → IsLoadedFrom t base → NamesAlgorithm base.state → IsLoadedFrom t set × NamesAlgorithm set.state
+  pub still : map failed now ≡ map failed old
 
 -- before the first
 pub folded_none : {P : Type 0} (tell : P → Bool) (tables : P → Tables) (failed : P → ℕ) (calm : P → Type 0) (force : Bool) (base : Held) (old : List P) → Folded tell tables failed calm force base old old 0 base
@@ -25,6 +26,7 @@ folded_none tell tables failed calm force base old = record {
   rest = λ all. refl;
   some = record { tables = []; are_told = tt; states = []; read = refl; made = refl; held = refl };
   loaded = λ t from named. (from, named);
+  still = refl;
 }
 
 -- one more patch whose tables have a state, wherever it stands
@@ -177,13 +179,14 @@ module _ {P : Type 0} (tell : P → Bool) (tables : P → Tables) (failed : P �
   }
 
   pub folded_more : (next : Held) → IsDue (due_patch force (n + 1) h.state (tell x) (tables x)) next.state → IsPatchedBy force (tell x) (tables x) h next
-      → ((t : Tables) → IsLoadedFrom t h → NamesAlgorithm h.state → IsLoadedFrom t next × NamesAlgorithm next.state)
+      → ((t : Tables) → IsLoadedFrom t h → NamesAlgorithm h.state → IsLoadedFrom t next × NamesAlgorithm next.state) → failed y ≡ failed x
       → Folded tell tables failed calm force base old after (n + 1) next
-  folded_more next due one loads = record {
+  folded_more next due one loads stands = record {
     read = read_after;
     rest = λ all. due_now all ∙ ap on_from (subst (λ b. one_due b (Ok next.state)) (tells_one all) due) ∙ ap (λ k. all_patched force k next.state (drop (n + 1) (map tables old))) (one_on (n + 1));
     some = some_more next one;
     loaded = λ t from named. let before = so.loaded t from named in loads t before.0 before.1;
+    still = map-set_same failed now n y x (stands ∙ ap failed is) ∙ so.still;
   }
 
 -- all of them

@@ -29,6 +29,7 @@ pub record SoFar {B V : Type 0} (told : B → Option (List ℕ)) (texts : B → 
   pub reads : GrewFrom (count x) (count y) (answered tiles + 1)
   pub counted : count x ≤ count y
   pub kept : ReadsOnly told texts failed steady x y
+  pub still : failed y ≡ failed x
 
 answered_more : (tiles : List (Option (List ℕ))) (tile : Option (List ℕ)) → answered (tiles ++ tile ∷ []) ≡ answered tiles + answered_by tile
 answered_more [] tile = omega arith

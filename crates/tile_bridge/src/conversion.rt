@@ -1,5 +1,5 @@
 // The conversion of a set.
-ghost use Rattle.std.specs.Prelude.{◌≡◌, ◌+◌, ◌∷◌, false, map, ℕ, IfOk, IsErrOf};
+ghost use Rattle.std.specs.Prelude.{◌≡◌, ◌+◌, ◌∷◌, false, map, ℕ, IfOk, IsErrOf, OnOk};
 ghost use Rattle.tile_bridge.specs.Common.{aggregate, Keeps, KeepsMedium, Rose};
 ghost use Rattle.tile_bridge.specs.Convert.{ConvertCauses, HasPlaces, IsEmpty, IsPlain, SetCauses, SetLeaves};
 ghost use Rattle.tile_bridge.specs.Leaves.{Leaves};
@@ -66,6 +66,7 @@ pub(crate) fn convert_set<M: Medium>(
     ensures fault { IsErrOf result ConvertError.MediumFault
         → Rose (M.faults medium.old) (M.faults medium.new) }
     ensures kept { KeepsMedium M.told M.versions M.reads M.faults M.steady medium.old medium.new }
+    ensures still { OnOk result (M.faults medium.new ≡ M.faults medium.old) }
 {
     let adds = make_adds(alloc, set)?;
     options.fits();
@@ -112,6 +113,10 @@ pub fn convert<S: TileStore, P: TileStore, O: ArchiveOptions, M: Medium>(
     ensures base_kept { Keeps S.tells S.faults S.steady base.old base.new }
     ensures medium_kept { KeepsMedium M.told M.versions M.reads M.faults M.steady
         medium.old medium.new }
+    ensures base_still { OnOk result (S.faults base.new ≡ S.faults base.old) }
+    ensures patches_still { OnOk result (map P.faults patches.new.items
+        ≡ map P.faults patches.old.items) }
+    ensures medium_still { OnOk result (M.faults medium.new ≡ M.faults medium.old) }
 {
     let length = medium.len()?;
     if length != 0 {

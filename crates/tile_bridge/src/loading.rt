@@ -1,5 +1,5 @@
 // The stores of a conversion are loaded.
-ghost use Rattle.std.specs.Prelude.{◌≡◌, ◌≢◌, ℕ, true, Err, IfErr, IfOk, IsErrOf, Ok};
+ghost use Rattle.std.specs.Prelude.{◌≡◌, ◌≢◌, ℕ, true, Err, IfErr, IfOk, IsErrOf, Ok, OnOk};
 ghost use Rattle.tile_bridge.specs.Common.{IsLoadable, IsLoadedFrom, NamesAlgorithm, nothing_edited, ReadsOnly, Rose, state_of, told_of};
 ghost use Rattle.tile_bridge.specs.Patching.{HoldsState};
 ghost use Rattle.tile_bridge.specs.Stores.{Refuses, due_at, refusal_at};
@@ -38,6 +38,7 @@ pub(crate) fn load_at<S: TileStore>(
     ensures whole { IfOk result (λ set. IsLoadable set.state) }
     ensures named { IfOk result (λ set. NamesAlgorithm set.state) }
     ensures kept { ReadsOnly S.told S.tells S.faults S.steady store.old store.new }
+    ensures still { OnOk result (S.faults store.new ≡ S.faults store.old) }
     ensures fault { (p : ℕ) → IsErrOf result (ConvertError.StoreFault p)
         → (p ≡ place) × Rose (S.faults store.old) (S.faults store.new) }
 {

@@ -27,6 +27,7 @@ fn patch_at<P: TileStore>(
     ensures loaded { (t : Tables) → IsLoadedFrom t set → NamesAlgorithm set.state
         → IfOk result (λ next. IsLoadedFrom t next × NamesAlgorithm next.state) }
     ensures kept { ReadsOnly P.told P.tells P.faults P.steady patch.old patch.new }
+    ensures still { OnOk result (P.faults patch.new ≡ P.faults patch.old) }
     ensures fault { (p : ℕ) → IsErrOf result (ConvertError.StoreFault p)
         → (p ≡ place) × Rose (P.faults patch.old) (P.faults patch.new) }
 {
@@ -54,6 +55,8 @@ pub(crate) fn patch_all<P: TileStore>(
         → IfOk result (λ set. IsLoadedFrom t set × NamesAlgorithm set.state) }
     ensures read { AreOnlyRead P.tells P.told P.faults P.steady
         patches.old.items patches.new.items }
+    ensures still { OnOk result (map P.faults patches.new.items
+        ≡ map P.faults patches.old.items) }
     ensures fault { (p : ℕ) → IsErrOf result (ConvertError.StoreFault p)
         → (k : ℕ) × (p ≡ suc k) × RoseAt k (map P.faults patches.old.items)
         (map P.faults patches.new.items) }
@@ -79,6 +82,7 @@ pub(crate) fn store_patches<S: TileStore>(
     ensures refused { OnErr result (S.told base.new ≡ S.told base.old) }
     ensures causes { IfErr result IsStoreError }
     ensures kept { Keeps S.tells S.faults S.steady base.old base.new }
+    ensures still { OnOk result (S.faults base.new ≡ S.faults base.old) }
     ensures fault { (p : ℕ) → IsErrOf result (ConvertError.StoreFault p)
         → (p ≡ 0) × Rose (S.faults base.old) (S.faults base.new) }
 {

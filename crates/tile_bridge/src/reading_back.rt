@@ -1,5 +1,5 @@
 // The tiles at coordinates, read from the archive that was written.
-ghost use Rattle.std.specs.Prelude.{◌≡◌, ◌≤◌, ◌+◌, true, IfSome, IfOk};
+ghost use Rattle.std.specs.Prelude.{◌≡◌, ◌≤◌, ◌+◌, true, IfSome, IfOk, OnOk};
 ghost use Rattle.byte_media.specs.Kept.{ReadsOnly};
 ghost use Rattle.tile_bridge.specs.Common.{filled, id_of, Options, WellFormed};
 ghost use Rattle.pm_reader.specs.Answers.{LookUpCauses};
@@ -50,6 +50,7 @@ fn read_answer<B: Backend>(
         (answered_by tile)) }
     ensures counted { B.reads backend.old ≤ B.reads backend.new }
     ensures kept { ReadsOnly B.told B.versions B.faults B.steady backend.old backend.new }
+    ensures still { OnOk result (B.faults backend.new ≡ B.faults backend.old) }
 {
     let found = state.get_cached_tile(backend, cache, TileId::from(coord))?;
     Ok(filled_tile(alloc, found)?)
@@ -73,6 +74,7 @@ pub fn read_answers<B: Backend>(
         (answered answers + 1)) }
     ensures counted { B.reads backend.old ≤ B.reads backend.new }
     ensures kept { ReadsOnly B.told B.versions B.faults B.steady backend.old backend.new }
+    ensures still { OnOk result (B.faults backend.new ≡ B.faults backend.old) }
 {
     let state = ReaderState::open(alloc, backend)?;
     let mut cache = HashMapCache::new(alloc);

@@ -81,6 +81,7 @@ fn add_all<M: Medium>(
     ensures alive { OnOk result (has_failed state.new ≡ false) }
     ensures causes { WriteCauses (M.faults medium.old) (M.faults medium.new) result }
     ensures kept { KeepsMedium M.told M.versions M.reads M.faults M.steady medium.old medium.new }
+    ensures still { OnOk result (M.faults medium.new ≡ M.faults medium.old) }
 {
     for (index, add) in adds.iter().enumerate() {
         make_room(state, set, adds, index)?;
@@ -113,6 +114,7 @@ pub(crate) fn write_archive<M: Medium>(
         (shown set.now.state.tiles adds.now))) }
     ensures causes { WriteCauses (M.faults medium.old) (M.faults medium.new) result }
     ensures kept { KeepsMedium M.told M.versions M.reads M.faults M.steady medium.old medium.new }
+    ensures still { OnOk result (M.faults medium.new ≡ M.faults medium.old) }
 {
     let mut state = options.start(alloc, medium)?;
     add_all(&mut state, medium, set, adds)?;

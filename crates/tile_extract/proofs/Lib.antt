@@ -4,6 +4,7 @@ pub mod CutLemmas
 pub mod AddedLemmas
 pub mod LyingLemmas
 pub mod PartsLemmas
+pub mod FaultLemmas
 pub mod FinishLemmas
 pub mod ExtractLemmas
 pub mod TileLemmas

@@ -6,6 +6,7 @@ pub mod Cut
 pub mod Met
 pub mod Written
 pub mod Extract
+pub mod Faults
 pub mod Subtree
 pub mod Opening
 pub mod Completeness

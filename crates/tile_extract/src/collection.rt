@@ -6,6 +6,7 @@ ghost use Rattle.tile_extract.specs.Cut.{intervals, options_from};
 ghost use Rattle.tile_extract.specs.Part.{options_with_zooms, part_options};
 ghost use Rattle.tile_extract.specs.Extract.{CollectCauses, CollectRefuses, IsCollected};
 ghost use Rattle.tile_extract.specs.Written.{of_walk_error};
+ghost use Rattle.tile_extract.specs.Faults.{SourceStands};
 
 use crate::subtree::intervals_of;
 use crate::writing::of_reader;
@@ -91,6 +92,7 @@ pub fn collect_intervals<B: Backend>(
     ensures within { IfOk result (λ parts. AllLieIn intervals.now parts.items) }
     ensures causes { IfErr result
         (CollectCauses max_tiles (B.faults source.old) (B.faults source.new)) }
+    ensures still { SourceStands (B.faults source.old) (B.faults source.new) result }
     ensures kept { ReadsOnly B.told B.versions B.faults B.steady source.old source.new }
     ensures reads { IfSome (B.told source.old) (λ b. B.reads source.new ≤ B.reads source.old
         + (walked extents.Within 6 (header_of state.now) b intervals.now 0 None
@@ -124,6 +126,7 @@ pub fn collect<B: Backend>(
     ensures within { IfOk result (λ parts. AllLieIn (intervals root max_zoom) parts.items) }
     ensures causes { IfErr result
         (CollectCauses max_tiles (B.faults source.old) (B.faults source.new)) }
+    ensures still { SourceStands (B.faults source.old) (B.faults source.new) result }
     ensures kept { ReadsOnly B.told B.versions B.faults B.steady source.old source.new }
     ensures reads { IfSome (B.told source.old) (λ b. B.reads source.new ≤ B.reads source.old
         + (walked extents.Within 6 (header_of state.now) b (intervals root max_zoom) 0 None

@@ -3,6 +3,7 @@ ghost use Rattle.std.specs.Prelude.{◌≤◌, ◌+◌, IfSome};
 ghost use Rattle.tile_extract.specs.Common.{KeepsMedium, ReadsOnly};
 ghost use Rattle.tile_extract.specs.Extract.{HasZooms, IntoCauses, IntoLeaves, IsEmpty, LeavesUnread, PartAnswers, PartCauses, PartLeaves, PartUncompared, part_reads};
 ghost use Rattle.tile_extract.specs.Subtree.{Answers, Causes, Leaves, LeavesUncompared, reads_at_most};
+ghost use Rattle.tile_extract.specs.Faults.{MediumStands, SourceStands};
 
 use crate::collection::{collect_intervals, part_options};
 use crate::opening::{read_source, test_medium, test_part, test_zoom};
@@ -26,6 +27,8 @@ fn extract_into<B: Backend, M: Medium>(
     requires empty { IsEmpty (M.told medium.old) }
     ensures causes { IntoCauses max_tiles (B.faults source.old) (B.faults source.new)
         (M.faults medium.old) (M.faults medium.new) result }
+    ensures source_still { SourceStands (B.faults source.old) (B.faults source.new) result }
+    ensures medium_still { MediumStands (M.faults medium.old) (M.faults medium.new) result }
     ensures answers { IfSome (B.told source.old)
         (λ b. PartAnswers (M.told medium.old) b part.now max_tiles result) }
     ensures leaves { IntoLeaves (B.told source.old) part.now max_tiles result (M.told medium.new) }
@@ -76,6 +79,8 @@ pub fn extract_intervals<B: Backend, M: Medium>(
     ensures causes { PartCauses part.now max_tiles (M.told medium.old)
         (B.faults source.old) (B.faults source.new) (M.faults medium.old) (M.faults medium.new)
         result }
+    ensures source_still { SourceStands (B.faults source.old) (B.faults source.new) result }
+    ensures medium_still { MediumStands (M.faults medium.old) (M.faults medium.new) result }
     ensures answers { IfSome (B.told source.old)
         (λ b. PartAnswers (M.told medium.old) b part.now max_tiles result) }
     ensures leaves { PartLeaves (B.told source.old) part.now max_tiles result
@@ -129,6 +134,8 @@ pub fn extract<B: Backend, M: Medium>(
     ensures causes { Causes root max_zoom max_tiles (M.told medium.old)
         (B.faults source.old) (B.faults source.new) (M.faults medium.old) (M.faults medium.new)
         result }
+    ensures source_still { SourceStands (B.faults source.old) (B.faults source.new) result }
+    ensures medium_still { MediumStands (M.faults medium.old) (M.faults medium.new) result }
     ensures answers { IfSome (B.told source.old)
         (λ b. Answers (M.told medium.old) b root max_zoom max_tiles result) }
     ensures leaves { Leaves (B.told source.old) root max_zoom max_tiles result

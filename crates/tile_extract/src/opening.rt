@@ -4,6 +4,7 @@ ghost use Rattle.tile_extract.specs.Common.{opened, ReadsOnly};
 ghost use Rattle.tile_extract.specs.Extract.{HasZooms};
 ghost use Rattle.tile_extract.specs.Opening.{MediumTested, SourceCauses, SourceRead, opening_reads};
 ghost use Rattle.tile_extract.specs.Subtree.{IsValid};
+ghost use Rattle.tile_extract.specs.Faults.{MediumStands, SourceStands};
 
 use crate::writing::of_reader;
 use crate::{ExtractError, TilePart};
@@ -51,6 +52,7 @@ pub(crate) fn test_zoom(root: TileCoord, max_zoom: u8) -> Result<(), ExtractErro
 pub(crate) fn test_medium<M: Medium>(medium: &mut M) -> Result<(), ExtractError>
     ensures tested { MediumTested (M.told medium.old) (M.faults medium.old) (M.faults medium.new)
         result }
+    ensures still { MediumStands (M.faults medium.old) (M.faults medium.new) result }
     ensures counted { M.reads medium.new ≡ M.reads medium.old }
     ensures kept { ReadsOnly M.told M.versions M.faults M.steady medium.old medium.new }
 {
@@ -71,6 +73,7 @@ pub(crate) fn read_source<B: Backend>(
 ) -> Result<(ReaderState, TextVal), ExtractError>
     ensures answer { IfSome (B.told source.old) (λ b. SourceRead b result) }
     ensures causes { SourceCauses (B.faults source.old) (B.faults source.new) result }
+    ensures still { SourceStands (B.faults source.old) (B.faults source.new) result }
     ensures kept { ReadsOnly B.told B.versions B.faults B.steady source.old source.new }
     ensures reads { IfSome (B.told source.old)
         (λ b. B.reads source.new ≤ B.reads source.old + opening_reads (opened b)) }

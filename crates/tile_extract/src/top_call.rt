@@ -6,6 +6,7 @@ ghost use Rattle.tile_extract.specs.Extract.{LeavesUnread};
 ghost use Rattle.tile_extract.specs.Subtree.{Answers, Causes, Leaves, LeavesUncompared, reads_at_most};
 ghost use Rattle.tile_extract.specs.TopCall.{IsFor, OfExtract};
 ghost use Rattle.tile_extract.specs.Words.{asked_in};
+ghost use Rattle.tile_extract.specs.Faults.{MediumStands, SourceStands};
 
 use crate::words::parse_words;
 use crate::{ExtractError, ExtractOutcome, extract};
@@ -30,6 +31,8 @@ pub fn run_extract<B: Backend, M: Medium>(
         (Causes a.root a.max_zoom a.max_tiles (M.told medium.old)
         (B.faults source.old) (B.faults source.new) (M.faults medium.old) (M.faults medium.new))
         result) }
+    ensures source_still { OfExtract (SourceStands (B.faults source.old) (B.faults source.new)) result }
+    ensures medium_still { OfExtract (MediumStands (M.faults medium.old) (M.faults medium.new)) result }
     ensures answers { IfSome (asked_in words.now)
         (λ a. IfSome (B.told source.old)
         (λ b. OfExtract (Answers (M.told medium.old) b a.root a.max_zoom a.max_tiles) result)) }

@@ -5,6 +5,7 @@ ghost use Rattle.tile_ids.specs.declared.id.TheConstants.{MAX_TILE_ID};
 ghost use Rattle.pm_format.specs.declared.compression.Compression.TheVariants as compression;
 ghost use Rattle.pm_writer.specs.Adding.{WhereWrites, WritesSome};
 ghost use Rattle.tile_extract.specs.Written.{PartsPut, Puts, ShowsNone, WriteCauses, WritesParts, ids_of, of_read_error, of_write_error};
+ghost use Rattle.tile_extract.specs.Faults.{MediumStands, SourceStands};
 
 use crate::ExtractError;
 use pm_format::{Backend, DirEntry, Medium, PmtError};
@@ -49,6 +50,7 @@ fn add_part<M: Medium>(
     ensures alive { OnOk result (has_failed writer.new ≡ false) }
     ensures fault { IsErrOf result ExtractError.MediumFault
         → Rose (M.faults medium.old) (M.faults medium.new) }
+    ensures still { MediumStands (M.faults medium.old) (M.faults medium.new) result }
     ensures compared { M.reads medium.new ≤ M.reads medium.old + part.run_length }
     ensures kept { KeepsMedium M.told M.versions M.reads M.faults M.steady medium.old medium.new }
 {
@@ -79,6 +81,8 @@ fn add_parts<B: Backend, M: Medium>(
     ensures alive { OnOk result (has_failed writer.new ≡ false) }
     ensures causes { WriteCauses (B.faults source.old) (B.faults source.new)
         (M.faults medium.old) (M.faults medium.new) result }
+    ensures source_still { SourceStands (B.faults source.old) (B.faults source.new) result }
+    ensures medium_still { MediumStands (M.faults medium.old) (M.faults medium.new) result }
     ensures source_kept { ReadsOnly B.told B.versions B.faults B.steady source.old source.new }
     ensures reads { B.reads source.new ≤ B.reads source.old + length parts.now }
     ensures compared { M.reads medium.new ≤ M.reads medium.old + tile_count parts.now }
@@ -118,6 +122,8 @@ pub fn write_parts<B: Backend, M: Medium>(
         (ShowsNone options.now (header_of reader.now) (B.told source.old) parts.now) }
     ensures causes { WriteCauses (B.faults source.old) (B.faults source.new)
         (M.faults medium.old) (M.faults medium.new) result }
+    ensures source_still { SourceStands (B.faults source.old) (B.faults source.new) result }
+    ensures medium_still { MediumStands (M.faults medium.old) (M.faults medium.new) result }
     ensures source_kept { ReadsOnly B.told B.versions B.faults B.steady source.old source.new }
     ensures reads { B.reads source.new ≤ B.reads source.old + length parts.now }
     ensures compared { M.reads medium.new ≤ M.reads medium.old + tile_count parts.now }

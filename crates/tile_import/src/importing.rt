@@ -1,6 +1,6 @@
 // The import of an archive into a set.
 ghost use Rattle.tile_import.specs.Common.{Keeps, ReadsOnly};
-ghost use Rattle.std.specs.Prelude.{◌≡◌, ◌≤◌, ◌+◌, IfOk, IfSome, OnErr, true};
+ghost use Rattle.std.specs.Prelude.{◌≡◌, ◌≤◌, ◌+◌, IfOk, IfSome, OnErr, OnOk, true};
 ghost use Rattle.tile_import.specs.Import.{ImportCauses, IsAnswered, IsImported, reads_at_most};
 
 use crate::ImportError;
@@ -47,6 +47,8 @@ pub fn import<B: Backend, S: TileStore>(
     ensures refused { OnErr result (S.told store.new ≡ S.told store.old) }
     ensures backend_kept { ReadsOnly B.told B.versions B.faults B.steady backend.old backend.new }
     ensures store_kept { Keeps S.tells S.faults S.steady store.old store.new }
+    ensures backend_still { OnOk result (B.faults backend.new ≡ B.faults backend.old) }
+    ensures store_still { OnOk result (S.faults store.new ≡ S.faults store.old) }
     ensures reads { IfSome (B.told backend.old) (λ b. B.reads backend.new
         ≤ B.reads backend.old + reads_at_most b) }
 {

@@ -1,5 +1,5 @@
 // The tiles of an archive over those of a loaded set.
-ghost use Rattle.std.specs.Prelude.{◌≡◌, ◌≢◌, ◌≤◌, ◌+◌, IfErr, IfOk, IfSome, None, Some, false};
+ghost use Rattle.std.specs.Prelude.{◌≡◌, ◌≢◌, ◌≤◌, ◌+◌, IfErr, IfOk, IfSome, None, OnOk, Some, false};
 ghost use Rattle.tile_import.specs.Common.{AllOnBoard, is_free, IsLoadedFrom, may_put, ReadsOnly, Tables, tiles_put};
 ghost use Rattle.tile_import.specs.Import.{of_store_error, reads_at_most};
 ghost use Rattle.tile_import.specs.PutOver.{IsPutAnswer, IsPutOver, PutCauses, count_in};
@@ -56,6 +56,7 @@ pub fn put_archive<B: Backend>(
     ensures put { IfOk result (λ r. IsPutOver (B.told backend.old) base r.0 r.1) }
     ensures loaded { (t : Tables) → IsLoadedFrom t base → IfOk result (λ r. IsLoadedFrom t r.0) }
     ensures kept { ReadsOnly B.told B.versions B.faults B.steady backend.old backend.new }
+    ensures still { OnOk result (B.faults backend.new ≡ B.faults backend.old) }
     ensures reads { IfSome (B.told backend.old) (λ b. B.reads backend.new
         ≤ B.reads backend.old + reads_at_most b) }
 {

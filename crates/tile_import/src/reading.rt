@@ -1,5 +1,5 @@
 // The tiles of an archive.
-ghost use Rattle.std.specs.Prelude.{◌≡◌, ◌≤◌, ◌+◌, IfErr, IfOk, IfSome};
+ghost use Rattle.std.specs.Prelude.{◌≡◌, ◌≤◌, ◌+◌, IfErr, IfOk, IfSome, OnOk};
 ghost use Rattle.tile_import.specs.Common.{all_walked, AllOnBoard, coord_of, header_of, IsOpen, len, MAX_TILE_ID, ReadsOnly, root_of};
 ghost use Rattle.tile_import.specs.Import.{ReadCauses, reads_at_most};
 ghost use Rattle.tile_import.specs.Reading.{IsTileId, tiles_of};
@@ -62,6 +62,7 @@ fn read_opened<B: Backend>(
     ensures causes { IfErr result (ReadCauses max_tiles (B.faults backend.old)
         (B.faults backend.new)) }
     ensures kept { ReadsOnly B.told B.versions B.faults B.steady backend.old backend.new }
+    ensures still { OnOk result (B.faults backend.new ≡ B.faults backend.old) }
     ensures reads { IfSome (B.told backend.old) (λ b. B.reads backend.new ≤ B.reads backend.old
         + (all_walked b (header_of reader.now, root_of reader.now)).reads) }
 {
@@ -93,6 +94,7 @@ pub(crate) fn read_archive<B: Backend>(
     ensures causes { IfErr result (ReadCauses max_tiles (B.faults backend.old)
         (B.faults backend.new)) }
     ensures kept { ReadsOnly B.told B.versions B.faults B.steady backend.old backend.new }
+    ensures still { OnOk result (B.faults backend.new ≡ B.faults backend.old) }
     ensures reads { IfSome (B.told backend.old) (λ b. B.reads backend.new
         ≤ B.reads backend.old + reads_at_most b) }
 {

@@ -1,7 +1,7 @@
 // The set that an archive is imported into.
-ghost use Rattle.tile_import.specs.Common.{is_free, IsLoadedFrom, Keeps, Rose};
-ghost use Rattle.mb_store.specs.Kept.{ReadsOnly};
-ghost use Rattle.std.specs.Prelude.{◌≡◌, IfErr, IfOk, IsErrOf, OnErr, OnOk, true};
+ghost use Rattle.tile_import.specs.Common.{is_free, IsLoadedFrom, Keeps};
+ghost use Rattle.mb_store.specs.Kept.{FaultsCounted, ReadsOnly};
+ghost use Rattle.std.specs.Prelude.{◌≡◌, IfErr, IfOk, OnErr, OnOk, true};
 ghost use Rattle.mb_load.specs.Begun.{IsBegun};
 ghost use Rattle.mb_loaded.specs.Changing.{AreChangesOf};
 ghost use Rattle.mb_load.specs.Committing.{MakesChanges};
@@ -20,8 +20,7 @@ pub fn load_base<S: TileStore>(alloc: Global, store: &mut S) -> MbtResult<Loaded
     ensures answer { IsBegun editable (S.tells store.old) (S.told store.old) (state_in result) }
     ensures base { S.tells store.old ≡ true → IfOk result (IsBase (S.told store.old)) }
     ensures kept { ReadsOnly S.told S.tells S.faults S.steady store.old store.new }
-    ensures fault { IsErrOf result MbtError.StoreFault
-        → Rose (S.faults store.old) (S.faults store.new) }
+    ensures fault { FaultsCounted S.faults store.old store.new result MbtError.StoreFault }
 {
     let set = load(alloc, store)?;
     test_editable(set.mbt_type())?;
@@ -44,8 +43,7 @@ pub(crate) fn commit_set<S: TileStore>(alloc: Global, store: &mut S, set: Loaded
     ensures refused { OnErr result (S.told store.new ≡ S.told store.old) }
     ensures free { IfErr result (λ e. is_free e ≡ true) }
     ensures kept { Keeps S.tells S.faults S.steady store.old store.new }
-    ensures fault { IsErrOf result MbtError.StoreFault
-        → Rose (S.faults store.old) (S.faults store.new) }
+    ensures fault { FaultsCounted S.faults store.old store.new result MbtError.StoreFault }
 {
     let changes = changes_of(alloc, set)?;
     store.commit(alloc, &changes)?;

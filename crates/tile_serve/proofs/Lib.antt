@@ -1,6 +1,7 @@
 mod Common
 pub mod CompletingLemmas
 pub mod CourseLemmas
+pub mod FaultLemmas
 pub mod HoldingLemmas
 pub mod LinesLemmas
 pub mod OpenedLemmas

@@ -1,5 +1,6 @@
 pub mod Common
 pub mod Answers
+pub mod Faults
 pub mod Limits
 pub mod Outcomes
 pub mod Refused

@@ -11,6 +11,7 @@ ghost use Rattle.tile_serve.specs.Request.{request_of};
 ghost use Rattle.tile_serve.specs.Server.{IsTied};
 ghost use Rattle.tile_serve.specs.State.{KeepsBounds, KeepsDirectories, directories_of, opened_as, tiles_of};
 ghost use Rattle.tile_serve.specs.Tiles.{is_read};
+ghost use Rattle.tile_serve.specs.Faults.{FaultsStand};
 
 use crate::{ServeError, ServeLimits, ServerState};
 use base_values::BlobVal;
@@ -67,6 +68,7 @@ impl<'a, B: Backend> TileServer<'a, B> {
         ensures version { IfOk result
             (λ s. IfSome (B.versions s.backend.now)
             (λ text. opened_as s.state ≡ text (B.reads s.backend.now))) }
+        ensures still { IfOk result (λ s. B.faults s.backend.now ≡ B.faults backend.old) }
         ensures kept { IfOk result
             (λ s. ReadsOnly B.told B.versions B.faults B.steady backend.old s.backend.now) }
         ensures reads { IfOk result (λ s. Grew (B.reads backend.old) (B.reads s.backend.now) 1) }
@@ -100,6 +102,8 @@ impl<'a, B: Backend> TileServer<'a, B> {
         ensures texts { HasTexts (opened_as self.old.state) (B.versions self.new.backend.now)
             (B.reads self.new.backend.now) result }
         ensures causes { Causes (B.told self.old.backend.now)
+            (B.faults self.old.backend.now) (B.faults self.new.backend.now) result }
+        ensures still { FaultsStand
             (B.faults self.old.backend.now) (B.faults self.new.backend.now) result }
         ensures same { opened_as self.new.state ≡ opened_as self.old.state }
         ensures asked { is_read (request_of line.now) (tiles_of self.old.state) ≡ false

@@ -6,6 +6,7 @@ ghost use Rattle.tile_serve.specs.Course.{Goes, course};
 ghost use Rattle.tile_serve.specs.Outcomes.{outcome_of};
 ghost use Rattle.tile_serve.specs.Serving.{IsStop, IsUnmodifiedRun, LinesEnd, LinesTexts, WritesLine, WritesLines};
 ghost use Rattle.tile_serve.specs.State.{IsServing, opened_as, tiles_of};
+ghost use Rattle.tile_serve.specs.Faults.{OutputStands, SourceStands};
 
 use crate::{ServeOutcome, ServerState};
 use byte_streams::{Sink, write_all};
@@ -32,12 +33,14 @@ fn serve_line<B: Backend, O: Sink>(
         (outcome_of result) }
     ensures end { LinesEnd (B.told source.old) (B.faults source.old) (B.faults source.new)
         (outcome_of result) }
+    ensures source_still { SourceStands (B.faults source.old) (B.faults source.new) (outcome_of result) }
     ensures same { opened_as state.new ≡ opened_as state.old }
     ensures later { B.reads source.old ≤ B.reads source.new }
     ensures stops { IfErr result IsStop }
     ensures unmodified { IsUniform (B.versions source.old) → IsUnmodifiedRun (outcome_of result) }
     ensures fault { outcome_of result ≡ ServeOutcome.OutputFault
         → Rose (O.faults output.old) (O.faults output.new) }
+    ensures output_still { OutputStands (O.faults output.old) (O.faults output.new) (outcome_of result) }
     ensures source_kept { ReadsOnly B.told B.versions B.faults B.steady source.old source.new }
     ensures output_kept { KeepsSink O.held O.faults O.steady output.old output.new }
 {
@@ -65,9 +68,11 @@ pub(crate) fn serve_lines<B: Backend, O: Sink>(
     ensures later { B.reads source.old ≤ B.reads source.new }
     ensures end { LinesEnd (B.told source.old) (B.faults source.old) (B.faults source.new)
         (outcome_of result) }
+    ensures source_still { SourceStands (B.faults source.old) (B.faults source.new) (outcome_of result) }
     ensures unmodified { IsUniform (B.versions source.old) → IsUnmodifiedRun (outcome_of result) }
     ensures fault { outcome_of result ≡ ServeOutcome.OutputFault
         → Rose (O.faults output.old) (O.faults output.new) }
+    ensures output_still { OutputStands (O.faults output.old) (O.faults output.new) (outcome_of result) }
     ensures source_kept { ReadsOnly B.told B.versions B.faults B.steady source.old source.new }
     ensures output_kept { KeepsSink O.held O.faults O.steady output.old output.new }
 {

@@ -6,6 +6,7 @@ ghost use Rattle.tile_serve.specs.Limits.{IsLimits};
 ghost use Rattle.tile_serve.specs.Request.{request_of};
 ghost use Rattle.tile_serve.specs.State.{IsServing, KeepsBounds, KeepsDirectories, directories_of, opened_as, tiles_of};
 ghost use Rattle.tile_serve.specs.Tiles.{LeavesFound, is_held, is_read, with_found};
+ghost use Rattle.tile_serve.specs.Faults.{FaultsStand};
 
 use crate::found::{Found, found_of};
 use crate::reply::{plain_text, text_for};
@@ -33,6 +34,7 @@ fn open_reader<B: Backend>(alloc: Global, backend: &mut B) -> Result<ReaderState
         (λ e. IfSome (B.told backend.old) (λ b. RefusesOpening (opened b) e)) }
     ensures open { IfOk result (λ s. IsOpen (B.told backend.new) s) }
     ensures causes { IfErr result (OpeningCauses (B.faults backend.old) (B.faults backend.new)) }
+    ensures still { FaultsStand (B.faults backend.old) (B.faults backend.new) result }
     ensures version { IfOk result
         (λ s. HasVersionOf (B.versions backend.new) (B.reads backend.new) s) }
     ensures kept { ReadsOnly B.told B.versions B.faults B.steady backend.old backend.new }
@@ -98,6 +100,7 @@ impl ServerState {
             (λ e. IfSome (B.told backend.old) (λ b. RefusesOpening (opened b) e)) }
         ensures causes { IfErr result
             (OpeningCauses (B.faults backend.old) (B.faults backend.new)) }
+        ensures still { FaultsStand (B.faults backend.old) (B.faults backend.new) result }
         ensures serving { IfOk result
             (λ s. IsServing (B.told backend.new) (B.versions backend.new) s) }
         ensures version { IfOk result
@@ -129,6 +132,7 @@ impl ServerState {
             (B.reads backend.new) result }
         ensures causes { Causes (B.told backend.old) (B.faults backend.old) (B.faults backend.new)
             result }
+        ensures still { FaultsStand (B.faults backend.old) (B.faults backend.new) result }
         ensures same { opened_as self.new ≡ opened_as self.old }
         ensures directories { KeepsDirectories self.old self.new }
         ensures tiles { tiles_of self.new ≡ tiles_of self.old }
@@ -159,6 +163,7 @@ impl ServerState {
             (B.reads backend.new) result }
         ensures causes { Causes (B.told backend.old) (B.faults backend.old) (B.faults backend.new)
             result }
+        ensures still { FaultsStand (B.faults backend.old) (B.faults backend.new) result }
         ensures same { opened_as self.new ≡ opened_as self.old }
         ensures directories { KeepsDirectories self.old self.new }
         ensures tiles { IfOk result
@@ -202,6 +207,7 @@ impl ServerState {
             (B.reads backend.new) result }
         ensures causes { Causes (B.told backend.old) (B.faults backend.old) (B.faults backend.new)
             result }
+        ensures still { FaultsStand (B.faults backend.old) (B.faults backend.new) result }
         ensures same { opened_as self.new ≡ opened_as self.old }
         ensures held { is_held (tiles_of self.old) id ≡ true → IsWanting result }
         ensures directories { KeepsDirectories self.old self.new }
@@ -246,6 +252,7 @@ impl ServerState {
             (B.reads backend.new) result }
         ensures causes { Causes (B.told backend.old) (B.faults backend.old) (B.faults backend.new)
             result }
+        ensures still { FaultsStand (B.faults backend.old) (B.faults backend.new) result }
         ensures same { opened_as self.new ≡ opened_as self.old }
         ensures asked { is_read (request_of line.now) (tiles_of self.old) ≡ false
             → IsWanting result }

@@ -7,6 +7,7 @@ ghost use Rattle.tile_serve.specs.Limits.{IsLimits, limits_in};
 ghost use Rattle.tile_serve.specs.Outcomes.{outcome_of};
 ghost use Rattle.tile_serve.specs.Serving.{IsUnmodifiedRun, RunTexts, Writes};
 ghost use Rattle.tile_serve.specs.TopCall.{IsFor, IsRead, IsSilent, IsUnopened, OpensFor, SourceCauses, Taken};
+ghost use Rattle.tile_serve.specs.Faults.{InputStands, OutputStands, SourceStands};
 
 use crate::limits::limits_of;
 use crate::serving::serve_lines;
@@ -35,9 +36,11 @@ fn serve_requests<B: Backend, O: Sink>(
     ensures silent { IsSilent (outcome_of result) → O.held output.new ≡ O.held output.old }
     ensures causes { SourceCauses (B.told source.old) (B.faults source.old) (B.faults source.new)
         (outcome_of result) }
+    ensures source_still { SourceStands (B.faults source.old) (B.faults source.new) (outcome_of result) }
     ensures unmodified { IsUniform (B.versions source.old) → IsUnmodifiedRun (outcome_of result) }
     ensures fault { outcome_of result ≡ ServeOutcome.OutputFault
         → Rose (O.faults output.old) (O.faults output.new) }
+    ensures output_still { OutputStands (O.faults output.old) (O.faults output.new) (outcome_of result) }
     ensures source_kept { ReadsOnly B.told B.versions B.faults B.steady source.old source.new }
     ensures output_kept { KeepsSink O.held O.faults O.steady output.old output.new }
 {
@@ -69,11 +72,14 @@ fn attempt<B: Backend, I: Source, O: Sink>(
     ensures unread { IsUnopened (outcome_of result) → source.new ≡ source.old }
     ensures causes { SourceCauses (B.told source.old) (B.faults source.old) (B.faults source.new)
         (outcome_of result) }
+    ensures source_still { SourceStands (B.faults source.old) (B.faults source.new) (outcome_of result) }
     ensures unmodified { IsUniform (B.versions source.old) → IsUnmodifiedRun (outcome_of result) }
     ensures input_fault { outcome_of result ≡ ServeOutcome.InputFault
         → Rose (I.faults input.old) (I.faults input.new) }
+    ensures input_still { InputStands (I.faults input.old) (I.faults input.new) (outcome_of result) }
     ensures output_fault { outcome_of result ≡ ServeOutcome.OutputFault
         → Rose (O.faults output.old) (O.faults output.new) }
+    ensures output_still { OutputStands (O.faults output.old) (O.faults output.new) (outcome_of result) }
     ensures source_kept { ReadsOnly B.told B.versions B.faults B.steady source.old source.new }
     ensures input_kept { KeepsSource I.left I.taken I.faults I.steady input.old input.new }
     ensures output_kept { KeepsSink O.held O.faults O.steady output.old output.new }
@@ -127,11 +133,14 @@ pub fn run_serve<B: Backend, I: Source, O: Sink>(
     ensures unread { IsUnopened result → source.new ≡ source.old }
     ensures causes { SourceCauses (B.told source.old) (B.faults source.old) (B.faults source.new)
         result }
+    ensures source_still { SourceStands (B.faults source.old) (B.faults source.new) result }
     ensures unmodified { IsUniform (B.versions source.old) → IsUnmodifiedRun result }
     ensures input_fault { result ≡ ServeOutcome.InputFault
         → Rose (I.faults input.old) (I.faults input.new) }
+    ensures input_still { InputStands (I.faults input.old) (I.faults input.new) result }
     ensures output_fault { result ≡ ServeOutcome.OutputFault
         → Rose (O.faults output.old) (O.faults output.new) }
+    ensures output_still { OutputStands (O.faults output.old) (O.faults output.new) result }
     // Counts don't fall, what tells goes on to tell, and an object whose calls don't fail has no fault.
     ensures source_kept { ReadsOnly B.told B.versions B.faults B.steady source.old source.new }
     ensures input_kept { KeepsSource I.left I.taken I.faults I.steady input.old input.new }

@@ -1,5 +1,5 @@
 // The conversion of a set of which marks are held, and one content at a time.
-ghost use Rattle.std.specs.Prelude.{◌≡◌, ◌+◌, ◌∷◌, ◌||◌, [], ℕ, false, is_some, IfOk, IfSome, IsErrOf, unwrap_or};
+ghost use Rattle.std.specs.Prelude.{◌≡◌, ◌+◌, ◌∷◌, ◌||◌, [], ℕ, false, is_some, IfOk, IfSome, IsErrOf, OnOk, unwrap_or};
 ghost use Rattle.tile_streaming.specs.Common.{answered, GrewFrom, IsEmpty, IsPlain, KeepsMedium, ReadsOnly, Rose, RoseAt};
 ghost use Rattle.tile_streaming.specs.Hashing.{IsHashOf, IsRight};
 ghost use Rattle.tile_streaming.specs.Sizing.{overflow_of};
@@ -52,6 +52,8 @@ fn convert_held<S: TileStore, M: Medium>(
     ensures base_kept { ReadsOnly S.told S.tells S.faults S.steady base.old base.new }
     ensures medium_kept { KeepsMedium M.told M.versions M.reads M.faults M.steady
         medium.old medium.new }
+    ensures base_still { OnOk result (S.faults base.new ≡ S.faults base.old) }
+    ensures medium_still { OnOk result (M.faults medium.new ≡ M.faults medium.old) }
 {
     writer.fits();
     let places = write_marked(alloc, base, set, writer, medium)?;
@@ -108,6 +110,8 @@ fn convert_hashed<S: TileStore, O: StreamOptions, M: Medium>(
     ensures base_kept { ReadsOnly S.told S.tells S.faults S.steady base.old base.new }
     ensures medium_kept { KeepsMedium M.told M.versions M.reads M.faults M.steady
         medium.old medium.new }
+    ensures base_still { OnOk result (S.faults base.new ≡ S.faults base.old) }
+    ensures medium_still { OnOk result (M.faults medium.new ≡ M.faults medium.old) }
 {
     if mark_overflows(&set.marks) {
         return Err(StreamError::Convert(ConvertError::IndexEntryOverflow));
@@ -150,6 +154,8 @@ pub(crate) fn convert_marked<S: TileStore, O: StreamOptions, M: Medium>(
     ensures base_kept { ReadsOnly S.told S.tells S.faults S.steady base.old base.new }
     ensures medium_kept { KeepsMedium M.told M.versions M.reads M.faults M.steady
         medium.old medium.new }
+    ensures base_still { OnOk result (S.faults base.new ≡ S.faults base.old) }
+    ensures medium_still { OnOk result (M.faults medium.new ≡ M.faults medium.old) }
 {
     let aggregate = hash_for(alloc, base, set, options.asked().verify, hash)?;
     convert_hashed(alloc, base, set, coords, options, aggregate, medium)

@@ -1,5 +1,5 @@
 // The contents of a mark, read again from the store.
-ghost use Rattle.std.specs.Prelude.{◌≡◌, true, IfOk, Some};
+ghost use Rattle.std.specs.Prelude.{◌≡◌, true, IfOk, OnOk, Some};
 ghost use Rattle.mb_tables.specs.declared.cell.Cell.TheVariants.{Null};
 ghost use Rattle.tile_streaming.specs.Common.{cell_bytes, FaultsCounted, place_at, ReadsOnly, Rose, tile_key};
 ghost use Rattle.tile_streaming.specs.Finding.{fits, has_size, named_told, row_bytes, row_told, tile_told};
@@ -37,6 +37,7 @@ fn find_tile<S: TileStore>(
         → IfOk result (λ row. row ≡ tile_told layout (S.told store.old) id) }
     ensures causes { FindCauses ⊥ (S.faults store.old) (S.faults store.new) result }
     ensures kept { ReadsOnly S.told S.tells S.faults S.steady store.old store.new }
+    ensures still { OnOk result (S.faults store.new ≡ S.faults store.old) }
 {
     let key = key_at(TileCoord::from(id));
     Ok(store.find(alloc, layout.tile_table(), &key)?)
@@ -53,6 +54,7 @@ fn find_named<S: TileStore>(
         → IfOk result (λ found. found ≡ named_told table (S.told store.old) row.now) }
     ensures causes { FindCauses ⊥ (S.faults store.old) (S.faults store.new) result }
     ensures kept { ReadsOnly S.told S.tells S.faults S.steady store.old store.new }
+    ensures still { OnOk result (S.faults store.new ≡ S.faults store.old) }
 {
     let null = Cell::Null;
     let Some(key) = id_key(alloc, cell_at(row, 3, &null))? else {
@@ -72,6 +74,7 @@ fn find_row<S: TileStore>(
         → IfOk result (λ row. row ≡ row_told layout (S.told store.old) id) }
     ensures causes { FindCauses ⊥ (S.faults store.old) (S.faults store.new) result }
     ensures kept { ReadsOnly S.told S.tells S.faults S.steady store.old store.new }
+    ensures still { OnOk result (S.faults store.new ≡ S.faults store.old) }
 {
     let found = find_tile(alloc, store, layout, id)?;
     let Some(schema) = layout.normalized_schema() else {
@@ -144,6 +147,7 @@ pub(crate) fn marked_row<S: TileStore>(
     ensures causes { FindCauses (IsChanged (S.tells store.old) (S.told store.old) layout mark.now)
         (S.faults store.old) (S.faults store.new) result }
     ensures kept { ReadsOnly S.told S.tells S.faults S.steady store.old store.new }
+    ensures still { OnOk result (S.faults store.new ≡ S.faults store.old) }
 {
     let Some(row) = find_row(alloc, store, layout, mark.id)? else {
         return Err(StreamError::StoreChanged);

@@ -57,6 +57,7 @@ fn hash_mark<S: TileStore>(
     ensures causes { FindCauses (IsChanged (S.tells store.old) (S.told store.old) layout mark.now)
         (S.faults store.old) (S.faults store.new) result }
     ensures kept { ReadsOnly S.told S.tells S.faults S.steady store.old store.new }
+    ensures still { OnOk result (S.faults store.new ≡ S.faults store.old) }
 {
     let coord = TileCoord::from(mark.id);
     if is_empty(mark) {
@@ -87,6 +88,7 @@ fn hash_spots<S: TileStore>(
     ensures causes { FindCauses (S.tells store.old ≡ false)
         (S.faults store.old) (S.faults store.new) result }
     ensures kept { ReadsOnly S.told S.tells S.faults S.steady store.old store.new }
+    ensures still { OnOk result (S.faults store.new ≡ S.faults store.old) }
 {
     for spot in spots {
         hash_mark(alloc, store, layout, &marks[spot.index], stream)?;
@@ -110,6 +112,7 @@ pub(crate) fn hash_marked<S: TileStore>(
     ensures causes { FindCauses (S.tells store.old ≡ false)
         (S.faults store.old) (S.faults store.new) result }
     ensures kept { ReadsOnly S.told S.tells S.faults S.steady store.old store.new }
+    ensures still { OnOk result (S.faults store.new ≡ S.faults store.old) }
 {
     let marks = set.marks.as_slice();
     if marks.is_empty() {

@@ -1,5 +1,5 @@
 // The conversion of a set that holds no contents.
-ghost use Rattle.std.specs.Prelude.{◌≡◌, ◌+◌, ◌∷◌, ◌||◌, [], ℕ, is_some, true, IfOk, IsErrOf};
+ghost use Rattle.std.specs.Prelude.{◌≡◌, ◌+◌, ◌∷◌, ◌||◌, [], ℕ, is_some, true, IfOk, IsErrOf, OnOk};
 ghost use Rattle.tile_streaming.specs.Common.{answered, GrewFrom, IsEmpty, IsPlain, Keeps, KeepsMedium, Rose, RoseAt};
 ghost use Rattle.byte_media.specs.Kept as media;
 ghost use Rattle.tile_streaming.specs.Streaming.{due_of, StreamCauses, StreamLeaves, TestCauses};
@@ -20,6 +20,7 @@ fn test_medium<M: Medium>(options: &ConvertOptions, medium: &mut M) -> Result<()
         (M.faults medium.old) (M.faults medium.new) result }
     ensures reads { M.reads medium.new ≡ M.reads medium.old }
     ensures kept { media.ReadsOnly M.told M.versions M.faults M.steady medium.old medium.new }
+    ensures still { OnOk result (M.faults medium.new ≡ M.faults medium.old) }
 {
     let length = medium.len()?;
     if length != 0 {
@@ -62,6 +63,8 @@ fn convert_tested<S: TileStore, O: StreamOptions, M: Medium>(
     ensures base_kept { Keeps S.tells S.faults S.steady base.old base.new }
     ensures medium_kept { KeepsMedium M.told M.versions M.reads M.faults M.steady
         medium.old medium.new }
+    ensures base_still { OnOk result (S.faults base.new ≡ S.faults base.old) }
+    ensures medium_still { OnOk result (M.faults medium.new ≡ M.faults medium.old) }
 {
     match read_marks(alloc, base) {
         Ok(set) => convert_marked(alloc, base, &set, coords, options, hash, medium),
@@ -110,6 +113,8 @@ pub fn convert_streamed<S: TileStore, O: StreamOptions, M: Medium>(
     ensures base_kept { Keeps S.tells S.faults S.steady base.old base.new }
     ensures medium_kept { KeepsMedium M.told M.versions M.reads M.faults M.steady
         medium.old medium.new }
+    ensures base_still { OnOk result (S.faults base.new ≡ S.faults base.old) }
+    ensures medium_still { OnOk result (M.faults medium.new ≡ M.faults medium.old) }
 {
     match test_medium(options.asked(), medium) {
         Ok(()) => convert_tested(alloc, base, coords, options, hash, medium),

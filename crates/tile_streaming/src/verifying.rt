@@ -1,5 +1,5 @@
 // The hash of a marked set, where it is asked for, and its test against the stored one.
-ghost use Rattle.std.specs.Prelude.{◌≡◌, ◌≢◌, ◌||◌, Err, false, is_some, IfErr, IfOk, IfSome, Some, true};
+ghost use Rattle.std.specs.Prelude.{◌≡◌, ◌≢◌, ◌||◌, Err, false, is_some, IfErr, IfOk, IfSome, OnOk, Some, true};
 ghost use Rattle.std.specs.Str.{bytes_eq};
 ghost use Rattle.tile_streaming.specs.Common.{is_free, ReadsOnly};
 ghost use Rattle.tile_streaming.specs.Hashing.{HashCauses, IsHashOf, stored_hash};
@@ -40,6 +40,7 @@ fn verified_hash<S: TileStore>(
     ensures causes { HashCauses true (S.tells store.old) (S.told store.old) set.now
         (S.faults store.old) (S.faults store.new) result }
     ensures kept { ReadsOnly S.told S.tells S.faults S.steady store.old store.new }
+    ensures still { OnOk result (S.faults store.new ≡ S.faults store.old) }
 {
     let Some(stored) = set.names.text(AGG_TILES_HASH) else {
         return Err(of_store(MbtError::AggHashValueNotFound));
@@ -68,6 +69,7 @@ pub(crate) fn hash_for<S: TileStore>(
     ensures causes { HashCauses verify (S.tells store.old) (S.told store.old) set.now
         (S.faults store.old) (S.faults store.new) result }
     ensures kept { ReadsOnly S.told S.tells S.faults S.steady store.old store.new }
+    ensures still { OnOk result (S.faults store.new ≡ S.faults store.old) }
 {
     if verify {
         return Ok(Some(verified_hash(alloc, store, set)?));

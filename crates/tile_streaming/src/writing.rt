@@ -36,6 +36,7 @@ fn add_row<M: Medium>(
         → AddFits o adds mark.now.id taken)
         → AddsCauses (M.faults medium.old) (M.faults medium.new) result) }
     ensures kept { KeepsMedium M.told M.versions M.reads M.faults M.steady medium.old medium.new }
+    ensures still { OnOk result (M.faults medium.new ≡ M.faults medium.old) }
 {
     let null = Cell::Null;
     let bytes = row_bytes(layout, row, &null);
@@ -71,6 +72,8 @@ fn add_mark<S: TileStore, M: Medium>(
     ensures store_kept { ReadsOnly S.told S.tells S.faults S.steady store.old store.new }
     ensures medium_kept { KeepsMedium M.told M.versions M.reads M.faults M.steady
         medium.old medium.new }
+    ensures store_still { OnOk result (S.faults store.new ≡ S.faults store.old) }
+    ensures medium_still { OnOk result (M.faults medium.new ≡ M.faults medium.old) }
 {
     if mark.length == 0 {
         return Ok(());
@@ -104,6 +107,8 @@ fn add_marks<S: TileStore, M: Medium>(
     ensures store_kept { ReadsOnly S.told S.tells S.faults S.steady store.old store.new }
     ensures medium_kept { KeepsMedium M.told M.versions M.reads M.faults M.steady
         medium.old medium.new }
+    ensures store_still { OnOk result (S.faults store.new ≡ S.faults store.old) }
+    ensures medium_still { OnOk result (M.faults medium.new ≡ M.faults medium.old) }
 {
     for mark in marks {
         add_mark(alloc, store, layout, mark, state, medium)?;
@@ -138,6 +143,8 @@ pub(crate) fn write_marked<S: TileStore, M: Medium>(
     ensures store_kept { ReadsOnly S.told S.tells S.faults S.steady store.old store.new }
     ensures medium_kept { KeepsMedium M.told M.versions M.reads M.faults M.steady
         medium.old medium.new }
+    ensures store_still { OnOk result (S.faults store.new ≡ S.faults store.old) }
+    ensures medium_still { OnOk result (M.faults medium.new ≡ M.faults medium.old) }
 {
     let mut state = match options.start(alloc, medium) {
         Ok(state) => state,

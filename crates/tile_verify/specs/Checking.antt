@@ -1,6 +1,7 @@
 -- What a check answers, and why.
 use Rattle.std.specs.Prelude.{◌≡◌, ◌≢◌, ◌≤◌, ◌+◌, ◌-◌, ◌^◌, min, ℕ, List, Some, Result, Ok, Err}
 use Rattle.tile_verify.specs.Common.{Grew, IsOpenRefusal, Opened, opened, PmtError, Rose, Sound}
+use Rattle.pm_format.specs.Faults.{StandsAtError}
 use Rattle.pm_format.specs.declared.error.PmtError.TheVariants as errors
 use Rattle.pm_format.specs.declared.error.ReadCause.TheVariants as causes
 use Rattle.tile_verify.specs.FirstBreak.{walk_of}
@@ -29,6 +30,20 @@ Causes before now (Err (Broken at why directories)) = Unit {0}
 Causes before now (Err Fault) = Rose before now
 Causes before now (Err (Short asked got)) = asked ≢ got
 Causes before now (Err OutOfMemory) = Unit {0}
+
+-- An error leaves the count of faults as it is, but for a fault and want of memory: also where a part is broken, or the
+-- archive doesn't open.
+abbrev pub StandsUnsound : ℕ → ℕ → VerifyError → Type 0
+StandsUnsound before now (Opening e) = StandsAtError before now e
+StandsUnsound before now (Broken at why directories) = now ≡ before
+StandsUnsound before now Fault = Unit {0}
+StandsUnsound before now (Short asked got) = now ≡ before
+StandsUnsound before now OutOfMemory = Unit {0}
+
+-- so does an answer
+abbrev pub FaultsStand : {A : Type 0} → ℕ → ℕ → Result A VerifyError → Type 0
+FaultsStand before now (Ok x) = now ≡ before
+FaultsStand before now (Err e) = StandsUnsound before now e
 
 -- Told or not, how often it reads: opening once, and what is refused by opening no more. A fault or a wrong number of
 -- bytes behind it comes with another read.

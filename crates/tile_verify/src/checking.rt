@@ -1,7 +1,7 @@
 // The check of a whole archive.
 ghost use Rattle.std.specs.Prelude.{◌+◌, ◌≤◌, IfSome};
 ghost use Rattle.tile_verify.specs.Common.{opened, ReadsOnly};
-ghost use Rattle.tile_verify.specs.Checking.{Answers, Causes, ReadsMade, reads_at_most};
+ghost use Rattle.tile_verify.specs.Checking.{Answers, Causes, ReadsMade, reads_at_most, FaultsStand};
 
 use crate::walk::{Met, Spot, walk};
 use crate::{VerifyError, VerifyReport};
@@ -21,6 +21,7 @@ use tile_ids::MAX_TILE_ID;
 pub fn verify<B: Backend>(alloc: Global, source: &mut B) -> Result<VerifyReport, VerifyError>
     ensures answer { IfSome (B.told source.old) (λ b. Answers b result) }
     ensures causes { Causes (B.faults source.old) (B.faults source.new) result }
+    ensures still { FaultsStand (B.faults source.old) (B.faults source.new) result }
     ensures kept { ReadsOnly B.told B.versions B.faults B.steady source.old source.new }
     ensures made { ReadsMade (B.reads source.old) (B.reads source.new) result }
     ensures reads { IfSome (B.told source.old)

@@ -1,7 +1,7 @@
 // The whole verifier as one call.
 ghost use Rattle.std.specs.Prelude.{◌≡◌, ◌≢◌, ◌+◌, ◌≤◌, IfSome};
 ghost use Rattle.tile_verify.specs.Common.{opened, ReadsOnly};
-ghost use Rattle.tile_verify.specs.Checking.{Answers, Causes, ReadsMade, reads_at_most};
+ghost use Rattle.tile_verify.specs.Checking.{Answers, Causes, ReadsMade, reads_at_most, FaultsStand};
 ghost use Rattle.tile_verify.specs.TopCall.{IsFor, OfCheck};
 
 use crate::{VerifyError, VerifyOutcome, verify};
@@ -17,6 +17,7 @@ pub fn run_verify<B: Backend>(alloc: Global, words: &[TextVal], source: &mut B) 
     ensures words { IsFor words.now result }
     ensures answer { IfSome (B.told source.old) (λ b. OfCheck (Answers b) result) }
     ensures causes { OfCheck (Causes (B.faults source.old) (B.faults source.new)) result }
+    ensures still { OfCheck (FaultsStand (B.faults source.old) (B.faults source.new)) result }
     ensures memory { result ≢ VerifyOutcome.Refused VerifyError.OutOfMemory }
     ensures untouched { result ≡ VerifyOutcome.Usage → source.new ≡ source.old }
     ensures kept { ReadsOnly B.told B.versions B.faults B.steady source.old source.new }

@@ -4,6 +4,7 @@ ghost use Rattle.tile_verify.specs.Common.{header_of, ReadsOnly};
 ghost use Rattle.tile_verify.specs.FirstBreak.{end_before, place, walked};
 ghost use Rattle.tile_verify.specs.Tiles.{tiles_below};
 ghost use Rattle.tile_verify.specs.Walking.{Adds, LeafRead, Meets, ReadsIn, TileRead, WalkCauses, WalkReads, Walks};
+ghost use Rattle.tile_verify.specs.Checking.{FaultsStand};
 
 use crate::tests_of_entries::limits_reason;
 use crate::{Place, Reason, VerifyError};
@@ -83,6 +84,7 @@ fn read_leaf<B: Backend>(
     ensures answer { IfSome (B.told backend.old)
         (λ b. LeafRead (header_of state.now) b at index entry met.old met.new result) }
     ensures causes { WalkCauses (B.faults backend.old) (B.faults backend.new) result }
+    ensures still { FaultsStand (B.faults backend.old) (B.faults backend.new) result }
     ensures made { WalkReads (B.reads backend.old) (B.reads backend.new) result }
     ensures kept { ReadsOnly B.told B.versions B.faults B.steady backend.old backend.new }
     ensures reads { B.reads backend.new ≤ B.reads backend.old + 1 }
@@ -120,6 +122,7 @@ fn read_tile<B: Backend>(
     ensures answer { IfSome (B.told backend.old)
         (λ b. TileRead (header_of state.now) b at index entry met.old met.new result) }
     ensures causes { WalkCauses (B.faults backend.old) (B.faults backend.new) result }
+    ensures still { FaultsStand (B.faults backend.old) (B.faults backend.new) result }
     ensures made { WalkReads (B.reads backend.old) (B.reads backend.new) result }
     ensures kept { ReadsOnly B.told B.versions B.faults B.steady backend.old backend.new }
     ensures reads { B.reads backend.new ≤ B.reads backend.old + 1 }
@@ -153,6 +156,7 @@ fn meet<B: Backend>(
         (λ b. Meets (header_of state.now) b at index entry left met.old met.new result) }
     ensures deep { IfOk result (λ leaf. IfSome leaf (λ _. left ≢ 0)) }
     ensures causes { WalkCauses (B.faults backend.old) (B.faults backend.new) result }
+    ensures still { FaultsStand (B.faults backend.old) (B.faults backend.new) result }
     ensures made { WalkReads (B.reads backend.old) (B.reads backend.new) result }
     ensures kept { ReadsOnly B.told B.versions B.faults B.steady backend.old backend.new }
     ensures reads { B.reads backend.new ≤ B.reads backend.old + 1 }
@@ -187,6 +191,7 @@ pub(crate) fn walk<B: Backend>(
         (λ b. Walks (walked left (header_of state.now) b at low limit directory.now)
         (tiles_below left (header_of state.now) b directory.now) met.old met.new result) }
     ensures causes { WalkCauses (B.faults backend.old) (B.faults backend.new) result }
+    ensures still { FaultsStand (B.faults backend.old) (B.faults backend.new) result }
     ensures made { WalkReads (B.reads backend.old) (B.reads backend.new) result }
     ensures kept { ReadsOnly B.told B.versions B.faults B.steady backend.old backend.new }
     ensures reads { IfSome (B.told backend.old)

@@ -6,3 +6,4 @@ pub mod HexDumpLemmas
 pub mod PrintedLemmas
 pub mod ReportLemmas
 pub mod RunLemmas
+pub mod StandsLemmas

@@ -9,4 +9,5 @@ pub mod Printed
 pub mod RefusalText
 pub mod Report
 pub mod Run
+pub mod Stands
 pub mod Summary

@@ -4,6 +4,8 @@ ghost use Rattle.tileset.specs.Common.{Gains, GainsFront, KeepsMedium, KeepsSink
 ghost use Rattle.tileset.specs.Dump.{DumpCauses, HasLength};
 ghost use Rattle.tileset.specs.HexDump.{hex_dump};
 ghost use Rattle.tileset.specs.Printed.{Grows};
+ghost use Rattle.tileset.specs.Run.{outcome_of};
+ghost use Rattle.tileset.specs.Stands.{MediumStands, OutputStands};
 
 use crate::hex_dump::push_hex_dump;
 use crate::{Outcome, Sink, write_all};
@@ -38,6 +40,10 @@ fn write_piece<O: Sink, M: Medium>(
     ensures output_kept { KeepsSink O.held O.faults O.steady output.old output.new }
     ensures medium_kept { KeepsMedium M.told M.versions M.reads M.faults M.steady
         medium.old medium.new }
+    ensures output_still { OutputStands (O.faults output.old) (O.faults output.new)
+        (outcome_of result) }
+    ensures medium_still { MediumStands (M.faults medium.old) (M.faults medium.new)
+        (outcome_of result) }
 {
     let response = medium.read_exact(alloc, at, size)?;
     text.clear();
@@ -68,6 +74,10 @@ pub(crate) fn write_dump<O: Sink, M: Medium>(
     ensures output_kept { KeepsSink O.held O.faults O.steady output.old output.new }
     ensures medium_kept { KeepsMedium M.told M.versions M.reads M.faults M.steady
         medium.old medium.new }
+    ensures output_still { OutputStands (O.faults output.old) (O.faults output.new)
+        (outcome_of result) }
+    ensures medium_still { MediumStands (M.faults medium.old) (M.faults medium.new)
+        (outcome_of result) }
 {
     let mut text = Vec::new(alloc);
     let mut at = 0;

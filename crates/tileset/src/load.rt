@@ -3,7 +3,8 @@ ghost use Rattle.std.specs.Prelude.{◌≡◌, Some, IfOk, IfErr, IfSome, OnOk, 
 ghost use Rattle.std.specs.Option.{option_to_list};
 ghost use Rattle.tileset.specs.Common.{bulk_script, IsAtEnd, IsCommand, IsShort, KeepsSource, Rose, script_text, ScriptNeverFails};
 ghost use Rattle.tileset_script.specs.LeafEntries.{IsLeafEntries};
-ghost use Rattle.tileset.specs.Run.{IsReadFor, IsScriptOf, IsUntaken, LoadCauses, LoadTakes, ScriptCauses, Spells};
+ghost use Rattle.tileset.specs.Run.{IsReadFor, IsScriptOf, IsUntaken, LoadCauses, LoadTakes, ScriptCauses, Spells, outcome_of};
+ghost use Rattle.tileset.specs.Stands.{InputStands};
 ghost use Rattle.tileset_script.specs.Setting.{options_of};
 ghost use Rattle.tileset_script.specs.declared.script.setting.Setting.TheVariants.{MaxLeafEntries};
 ghost use Rattle.tileset_script.specs.declared.words.Command.TheVariants as commands;
@@ -26,6 +27,8 @@ fn load<I: Source>(alloc: Global, input: &mut I) -> Result<ParsedScript, Outcome
     ensures fault { IsErrOf result Outcome.InputFault
         → Rose (I.faults input.old) (I.faults input.new) }
     ensures input_kept { KeepsSource I.left I.taken I.faults I.steady input.old input.new }
+    ensures input_still { InputStands (I.faults input.old) (I.faults input.new)
+        (outcome_of result) }
 {
     let mut reader = ScriptReader::new(alloc);
     take_input(input, &mut reader)?;
@@ -85,6 +88,8 @@ pub(crate) fn script_for<I: Source>(
     ensures fault { IsErrOf result Outcome.InputFault
         → Rose (I.faults input.old) (I.faults input.new) }
     ensures input_kept { KeepsSource I.left I.taken I.faults I.steady input.old input.new }
+    ensures input_still { InputStands (I.faults input.old) (I.faults input.new)
+        (outcome_of result) }
 {
     match command {
         Command::ConvertHex | Command::ConvertFile => load(alloc, input),

@@ -4,7 +4,8 @@ ghost use Rattle.tileset.specs.Common.{Gains, GainsFront, KeepsMedium, KeepsSink
 ghost use Rattle.tileset.specs.Places.{places_text};
 ghost use Rattle.tileset.specs.Printed.{Prints};
 ghost use Rattle.tileset.specs.Report.{report_text};
-ghost use Rattle.tileset.specs.Run.{IsReported, LinesCauses, ReportCauses, command_text};
+ghost use Rattle.tileset.specs.Run.{IsReported, LinesCauses, ReportCauses, command_text, outcome_of};
+ghost use Rattle.tileset.specs.Stands.{MediumStands, OutputStands};
 ghost use Rattle.tileset.specs.Summary.{summary};
 
 use crate::dump::write_dump;
@@ -32,6 +33,8 @@ fn write_summary<O: Sink>(
     ensures output_fault { IsErrOf result Outcome.OutputFault
         → Rose (O.faults output.old) (O.faults output.new) }
     ensures output_kept { KeepsSink O.held O.faults O.steady output.old output.new }
+    ensures output_still { OutputStands (O.faults output.old) (O.faults output.new)
+        (outcome_of result) }
 {
     let text = summary_of(alloc, queries, report)?;
     write_all(output, text.as_slice())?;
@@ -62,6 +65,10 @@ fn write_hex_report<O: Sink, M: Medium>(
     ensures output_kept { KeepsSink O.held O.faults O.steady output.old output.new }
     ensures medium_kept { KeepsMedium M.told M.versions M.reads M.faults M.steady
         medium.old medium.new }
+    ensures output_still { OutputStands (O.faults output.old) (O.faults output.new)
+        (outcome_of result) }
+    ensures medium_still { MediumStands (M.faults medium.old) (M.faults medium.new)
+        (outcome_of result) }
 {
     write_summary(alloc, queries, report, output)?;
     write_dump(alloc, report.places.length, output, medium)?;
@@ -83,6 +90,8 @@ fn write_places<O: Sink>(
     ensures output_fault { IsErrOf result Outcome.OutputFault
         → Rose (O.faults output.old) (O.faults output.new) }
     ensures output_kept { KeepsSink O.held O.faults O.steady output.old output.new }
+    ensures output_still { OutputStands (O.faults output.old) (O.faults output.new)
+        (outcome_of result) }
 {
     let text = places_text(alloc, places, uppers)?;
     write_all(output, text.as_bytes())?;
@@ -114,6 +123,10 @@ pub(crate) fn write_report<O: Sink, M: Medium>(
     ensures output_kept { KeepsSink O.held O.faults O.steady output.old output.new }
     ensures medium_kept { KeepsMedium M.told M.versions M.reads M.faults M.steady
         medium.old medium.new }
+    ensures output_still { OutputStands (O.faults output.old) (O.faults output.new)
+        (outcome_of result) }
+    ensures medium_still { MediumStands (M.faults medium.old) (M.faults medium.new)
+        (outcome_of result) }
 {
     match command {
         Command::ConvertHex => write_hex_report(alloc, queries, report, output, medium),

@@ -2,6 +2,7 @@
 ghost use Rattle.std.specs.Prelude.{◌≡◌, ◌⊎◌, Ok, IsErrOf};
 ghost use Rattle.tileset.specs.Common.{command, KeepsMedium, KeepsSink, KeepsSource, Rose, Script, script_text, ScriptNeverFails};
 ghost use Rattle.tileset.specs.Run.{AnsweredBy, Causes, Gives, IsReadFor, IsUntaken, IsValid, LeavesMedium, LeavesOutput, LeftBy, PrintedBy, PrintsReport, Taken, WrittenBy, answer, answer_script, given_of, outcome_of};
+ghost use Rattle.tileset.specs.Stands.{InputStands, MediumStands, OutputStands};
 
 use crate::converting::convert_stores;
 use crate::load::script_for;
@@ -58,6 +59,10 @@ pub fn run<I: Source, O: Sink, M: Medium>(
     ensures output_kept { KeepsSink O.held O.faults O.steady output.old output.new }
     ensures medium_kept { KeepsMedium M.told M.versions M.reads M.faults M.steady
         medium.old medium.new }
+    // Counts stand at Done, and at the answers that the definitions don't leave out.
+    ensures input_still { InputStands (I.faults input.old) (I.faults input.new) result }
+    ensures output_still { OutputStands (O.faults output.old) (O.faults output.new) result }
+    ensures medium_still { MediumStands (M.faults medium.old) (M.faults medium.new) result }
 {
     match attempt(alloc, words, input, output, medium) {
         Ok(()) => Outcome::Done,
@@ -90,6 +95,10 @@ fn convert_script<O: Sink, M: Medium>(
     ensures output_kept { KeepsSink O.held O.faults O.steady output.old output.new }
     ensures medium_kept { KeepsMedium M.told M.versions M.reads M.faults M.steady
         medium.old medium.new }
+    ensures output_still { OutputStands (O.faults output.old) (O.faults output.new)
+        (outcome_of result) }
+    ensures medium_still { MediumStands (M.faults medium.old) (M.faults medium.new)
+        (outcome_of result) }
 {
     let ParsedScript {
         options,
@@ -135,6 +144,12 @@ fn attempt<I: Source, O: Sink, M: Medium>(
     ensures output_kept { KeepsSink O.held O.faults O.steady output.old output.new }
     ensures medium_kept { KeepsMedium M.told M.versions M.reads M.faults M.steady
         medium.old medium.new }
+    ensures input_still { InputStands (I.faults input.old) (I.faults input.new)
+        (outcome_of result) }
+    ensures output_still { OutputStands (O.faults output.old) (O.faults output.new)
+        (outcome_of result) }
+    ensures medium_still { MediumStands (M.faults medium.old) (M.faults medium.new)
+        (outcome_of result) }
 {
     let Some(command) = command_of(words) else {
         return Err(Outcome::Usage);

@@ -13,6 +13,7 @@ invariant-loop-count g l =
       total : l.total ≡ length bytes;
       few : l.total ≤ MAX_INPUT;
       counted : Grew (s.taken l.fn.source) (s.taken l.source) (length bytes);
+      still : s.faults l.source ≡ s.faults l.fn.source;
       kept : KeepsSource s.left s.taken s.faults s.steady l.fn.source l.source;
     }
 

@@ -1,5 +1,5 @@
 -- what the sink gained is the front that was written
-use Rattle.byte_streams.proofs.Common.{Gains, KeepsSink, length, take, ◌-◌, ◌≤◌}
+use Rattle.byte_streams.proofs.Common.{Gains, KeepsSink, length, take, ◌-◌, ◌≡◌, ◌≤◌}
 use Rattle.byte_streams.proofs.output.write_all.Given as goal
 
 abbrev pub invariant-loop-done : goal.invariant-loop-done
@@ -8,6 +8,7 @@ invariant-loop-done g l =
     record {
       moved : Gains (k.held l.fn.sink) (k.held l.sink) (take l.done l.text);
       within : l.done ≤ length l.text;
+      still : k.faults l.sink ≡ k.faults l.fn.sink;
       kept : KeepsSink k.held k.faults k.steady l.fn.sink l.sink;
     }
 

@@ -1,4 +1,5 @@
-use Rattle.mb_access.proofs.Common.{detected, err_from_is_err_and, ◌∙◌}
+use Rattle.mb_access.proofs.Common.{detected, err_from_is_err_and, StoreFault, ◌∙◌}
+use Rattle.mb_store.proofs.FaultLemmas.{unasked}
 use Rattle.mb_access.proofs.DescribedLemmas.{described_err}
 use Rattle.mb_access.proofs.described.detect_type.Goals as goal
 
@@ -9,3 +10,6 @@ returns-in_err-tables-clause-answer g c =
 
 pub returns-clause-answer : goal.returns-clause-answer
 returns-clause-answer g c = record { tables = c.deref.result.now; is_told = λ t. c.deref.ensures.value ∙ c.in_ok-tables.ensures.answer t; answers = c.detected_in.ensures.answer }
+
+pub returns-clause-fault : goal.returns-clause-fault
+returns-clause-fault g c = unasked g.S.TileStore.faults c.args.store.now c.args.store.now c.describe.new.self c.detected_in.result StoreFault c.in_ok-tables.ensures.fault.still c.detected_in.ensures.fault

@@ -1,4 +1,6 @@
-use Rattle.mb_access.proofs.Common.{err_from_is_err_and, missing_answer, ◌∙◌}
+use Rattle.mb_access.proofs.Common.{err_from_is_err_and, missing_answer, StoreFault, ◌∙◌}
+use Rattle.std.proofs.Common.{rules}
+use Rattle.mb_store.proofs.FaultLemmas.{unasked}
 use Rattle.mb_access.proofs.DescribedLemmas.{described_err}
 use Rattle.mb_access.proofs.described.missing_tile_index.Goals as goal
 
@@ -9,3 +11,6 @@ returns-in_err-tables-clause-answer g c =
 
 pub returns-clause-answer : goal.returns-clause-answer
 returns-clause-answer g c = record { tables = c.deref.result.now; is_told = λ t. c.deref.ensures.value ∙ c.in_ok-tables.ensures.answer t; answers = c.missing_in.ensures.answer }
+
+pub returns-clause-fault : goal.returns-clause-fault
+returns-clause-fault g c = unasked g.S.TileStore.faults c.args.store.now c.args.store.now c.describe.new.self c.missing_in.result StoreFault c.in_ok-tables.ensures.fault.still (λ is. search rules)

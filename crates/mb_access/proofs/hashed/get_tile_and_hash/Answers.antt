@@ -1,4 +1,5 @@
-use Rattle.mb_access.proofs.Common.{coord_in, err_from_is_err_and, ◌∙◌}
+use Rattle.mb_access.proofs.Common.{coord_in, err_from_is_err_and, StoreFault, ◌∙◌}
+use Rattle.mb_store.proofs.FaultLemmas.{unasked}
 use Rattle.mb_access.proofs.HashedLemmas.{hashed_err, hashed_free, hashed_ok, row_by_same}
 use Rattle.mb_access.proofs.hashed.get_tile_and_hash.Goals as goal
 
@@ -18,3 +19,7 @@ returns-clause-answer g c =
     hashed_ok c.args.z c.args.x c.args.y (g.S.TileStore.tells c.args.store.now) (g.S.TileStore.told c.args.store.now) c.in_ok-set.set c.in_ok-row.row c.hashed.result c.in_ok-set.ensures.answer c.in_ok-set.ensures.own
     (λ t. row_by_same c.in_ok-row.row c.mbt_type.result c.in_ok-set.set.state.layout (g.S.TileStore.told c.load.new.store) (g.S.TileStore.told c.args.store.now) c.coord_in.result (coord_in c.args.z c.args.x c.args.y) (c.in_ok-row.ensures.answer (kept.tells ∙ t)) c.mbt_type.ensures kept.told c.coord_in.ensures)
     c.hashed.ensures.answer
+
+pub returns-clause-fault : goal.returns-clause-fault
+returns-clause-fault g c =
+    unasked g.S.TileStore.faults c.args.store.now c.args.store.now c.row_by.new.store c.hashed.result StoreFault (c.in_ok-row.ensures.fault.still ∙ c.in_ok-set.ensures.fault.still) c.hashed.ensures.fault

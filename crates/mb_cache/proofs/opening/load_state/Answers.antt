@@ -1,4 +1,5 @@
-use Rattle.mb_cache.proofs.Common.{ap, Cache, described_answer, err_from_is_err_and, made, Metadata, no_fault, Ok, refl, sym, Tables, tile_kind_wrong, TileCache, [], ◌∙◌, ◌≡◌}
+use Rattle.mb_cache.proofs.Common.{ap, Cache, described_answer, err_from_is_err_and, made, Metadata, no_fault, Ok, refl, StoreFault, sym, Tables, tile_kind_wrong, TileCache, [], ◌∙◌, ◌≡◌}
+use Rattle.mb_store.proofs.FaultLemmas.{unasked}
 use Rattle.mb_cache.proofs.OpenLemmas.{described_refused, rows_refused}
 use Rattle.mb_cache.proofs.OwnLemmas.{described_no_fault, due_agrees, due_rows, no_tables, opens_err, opens_store, own_described, own_kind}
 use Rattle.mb_cache.proofs.RowOrder.{kinds_first}
@@ -23,7 +24,8 @@ returns-in_err-test_described-clause-answer g c t layout =
 pub returns-in_err-test_described-clause-fault : goal.returns-in_err-test_described-clause-fault
 returns-in_err-test_described-clause-fault g c =
     let p = err_from_is_err_and c.from_residual-in_err-test_described.result c.from_residual-in_err-test_described.ensures.1 in
-    λ h. no_fault c.from_residual-in_err-test_described.result p.0 _ p.1 p.2 (described_no_fault c.deref.result.now _ (sym c.in_err-test_described.ensures)) h
+    unasked g.S.TileStore.faults c.args.store.now c.args.store.now c.describe.new.self c.from_residual-in_err-test_described.result StoreFault c.in_ok-tables.ensures.fault.still
+    (λ h. no_fault c.from_residual-in_err-test_described.result p.0 _ p.1 p.2 (described_no_fault c.deref.result.now _ (sym c.in_err-test_described.ensures)) h)
 
 pub returns-in_err-seen-clause-own : goal.returns-in_err-seen-clause-own
 returns-in_err-seen-clause-own g c =
@@ -66,7 +68,9 @@ pub returns-in_err-entries-clause-fault : goal.returns-in_err-entries-clause-fau
 returns-in_err-entries-clause-fault g c =
     let p = err_from_is_err_and c.from_residual-in_err-entries.result c.from_residual-in_err-entries.ensures.1 in
     let seen = c.in_ok-seen.ensures.own in
-    λ h. no_fault c.from_residual-in_err-entries.result p.0 _ p.1 p.2 (c.in_err-entries.ensures.tests seen.0 seen.1).1 h
+    unasked g.S.TileStore.faults c.args.store.now c.args.store.now c.read_metadata.new.store c.from_residual-in_err-entries.result StoreFault
+    (c.in_ok-metadata.ensures.fault.still ∙ (c.in_ok-seen.ensures.fault.still ∙ c.in_ok-tables.ensures.fault.still))
+    (λ h. no_fault c.from_residual-in_err-entries.result p.0 _ p.1 p.2 (c.in_err-entries.ensures.tests seen.0 seen.1).1 h)
 
 pub returns-clause-own : goal.returns-clause-own
 returns-clause-own g c =

@@ -16,6 +16,7 @@ loop-left-init g c =
         steady = λ s. next.steady (first.steady s);
         calm = λ s. next.calm (first.steady s) ∙ first.calm s;
       };
+      still = c.in_ok-left.ensures.fault.still ∙ c.in_ok-count.ensures.fault.still;
       counted = c.in_ok-count.ensures.answer;
       within = omega (arith, c.in_ok-left.ensures.fewer);
       seen = λ t.

@@ -4,6 +4,7 @@ use Rattle.mb_cache.proofs.pages.read_rows.Given as goal
 abbrev pub invariant-loop-left : goal.invariant-loop-left
 invariant-loop-left g l = record {
   kept : ReadsOnly g.S.TileStore.told g.S.TileStore.tells g.S.TileStore.faults g.S.TileStore.steady l.fn.store l.store;
+  still : g.S.TileStore.faults l.store ≡ g.S.TileStore.faults l.fn.store;
   counted : g.S.TileStore.tells l.fn.store ≡ true → l.count ≡ length ((g.S.TileStore.told l.fn.store).rows TileCache);
   within : l.left ≤ l.count;
   seen : g.S.TileStore.tells l.fn.store ≡ true → SeesRows (take (l.count - l.left) ((g.S.TileStore.told l.fn.store).rows TileCache)) l.seen;

@@ -7,6 +7,7 @@ use Rattle.mb_cache.proofs.sizing.evict_rounds.Goals as goal
 pub loop-size-init : goal.loop-size-init
 loop-size-init g c = record {
   kept = record { tells = refl; faults = omega arith; steady = λ s. s; calm = λ s. refl };
+  still = refl;
   cut = record { rounds = 0; entries = refl };
   live = c.requires.live;
   agrees = c.requires.agrees;
@@ -32,6 +33,7 @@ loop-size-preserved g c =
         steady = λ calls. s.steady (e.steady (i.kept.steady calls));
         calm = λ calls. s.calm (e.steady (i.kept.steady calls)) ∙ (e.calm (i.kept.steady calls) ∙ i.kept.calm calls);
       };
+      still = c.in_ok-left.ensures.fault.still ∙ (c.in_ok-gone.ensures.fault.still ∙ i.still);
       cut = cut_next c.args.entries.now.keys c.loop-size.entries.keys keys i.cut c.in_ok-gone.ensures.left;
       live = λ t.
           let tells = i.kept.tells ∙ t in

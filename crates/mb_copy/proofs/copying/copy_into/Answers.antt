@@ -1,4 +1,4 @@
-use Rattle.mb_copy.proofs.Common.{Answers, ap, err_from_is_err_and, false≢true, MbtError, Option, refused_by, subst, sym, Tables, true, ◌∙◌, ◌≡◌}
+use Rattle.mb_copy.proofs.Common.{Answers, ap, counted_then, err_from_is_err_and, false≢true, MbtError, Option, refused_by, subst, sym, Tables, true, ◌∙◌, ◌≡◌}
 use Rattle.mb_copy.proofs.AnswerLemmas.{anew_into, anew_moved, begun_moved, free_into, left_moved, mode_into, over_into, over_left, over_moved, store_free}
 use Rattle.mb_copy.proofs.HashLemmas.{none_expected}
 use Rattle.mb_copy.proofs.copying.copy_into.Goals as goal
@@ -41,3 +41,9 @@ returns-clause-copied g c told =
 
 pub returns-clause-left : goal.returns-clause-left
 returns-clause-left g c told = over_left c.args.copier.now c.args.source.state c.copy_over.result (g.D.TileStore.told c.is_empty_database.new.store) (g.D.TileStore.told c.args.dst.now) (g.D.TileStore.told c.copy_over.new.dst) c.is_empty_database.ensures.kept.told c.copy_over.ensures.refused
+
+pub returns-then-is_empty-clause-fault : goal.returns-then-is_empty-clause-fault
+returns-then-is_empty-clause-fault g c = counted_then _ _ _ _ _ _ c.in_ok-is_empty.ensures.fault.still c.copy_anew.ensures.fault
+
+pub returns-clause-fault : goal.returns-clause-fault
+returns-clause-fault g c = counted_then _ _ _ _ _ _ c.in_ok-is_empty.ensures.fault.still c.copy_over.ensures.fault

@@ -1,4 +1,4 @@
-use Rattle.mb_copy.proofs.Common.{ap, err_from_is_err_and, false≢true, sym, Tables, true, ◌∙◌, ◌≡◌}
+use Rattle.mb_copy.proofs.Common.{ap, counted_then, err_from_is_err_and, false≢true, sym, Tables, true, ◌∙◌, ◌≡◌}
 use Rattle.mb_copy.proofs.AnswerLemmas.{left_moved, store_free}
 use Rattle.mb_copy.proofs.PatchAnswerLemmas.{anew_patched, copied_moved, filled_patched, free_patched}
 use Rattle.mb_copy.proofs.copying_patched.copy_patched.Goals as goal
@@ -24,3 +24,6 @@ returns-then-is_empty-clause-left g c told = left_moved c.args.copier.now c.args
 
 pub returns-clause-answer : goal.returns-clause-answer
 returns-clause-answer g c = filled_patched c.args.copier.now c.args.source.state c.args.patch.now.state (g.D.TileStore.tells c.args.dst.now) (g.D.TileStore.told c.args.dst.now) (λ t none. false≢true (sym c.if-is_empty.false ∙ (c.in_ok-is_empty.ensures.answer t).1 none))
+
+pub returns-then-is_empty-clause-fault : goal.returns-then-is_empty-clause-fault
+returns-then-is_empty-clause-fault g c = counted_then _ _ _ _ _ _ c.in_ok-is_empty.ensures.fault.still c.copy_patched_anew.ensures.fault

@@ -1,6 +1,6 @@
-use Rattle.mb_load.proofs.Common.{ap, content_rows, err_from_is_err_and, index_missing, layout_of, List, Metadata, metadata_missing, patch_type_of, sym, TableDesc, Tables, tile_table, ◌∙◌}
+use Rattle.mb_load.proofs.Common.{ap, content_rows, err_from_is_err_and, index_missing, layout_of, List, Metadata, metadata_missing, patch_type_of, sym, TableDesc, Tables, tile_table, unasked, ◌∙◌}
 use Rattle.mb_load.proofs.LoadsFrom.{answer_loaded, answer_named, answer_whole}
-use Rattle.mb_load.proofs.StateLemmas.{answer_of, no_fault, own_of, own_of_store, own_refused}
+use Rattle.mb_load.proofs.StateLemmas.{answer_of, no_fault, never_faulted, own_of, own_of_store, own_refused}
 use Rattle.mb_load.proofs.loading.load.Goals as goal
 
 pub returns-in_err-descriptions-clause-own : goal.returns-in_err-descriptions-clause-own
@@ -16,7 +16,8 @@ returns-in_err-layout-clause-own g c =
 pub returns-in_err-layout-clause-fault : goal.returns-in_err-layout-clause-fault
 returns-in_err-layout-clause-fault g c =
     let p = err_from_is_err_and c.from_residual-in_err-layout.result c.from_residual-in_err-layout.ensures.1 in
-    λ h. no_fault c.from_residual-in_err-layout.result p.0 _ p.1 p.2 c.in_err-layout.ensures.unfaulted h
+    unasked _ _ c.args.store.now _ _ _ c.in_ok-descriptions.ensures.fault.still
+    (no_fault c.from_residual-in_err-layout.result p.0 _ p.1 p.2 c.in_err-layout.ensures.unfaulted)
 
 pub returns-in_err-rows-clause-own : goal.returns-in_err-rows-clause-own
 returns-in_err-rows-clause-own g c =
@@ -58,3 +59,8 @@ returns-clause-whole g c = answer_whole c.loaded_from.result (returns-clause-own
 
 pub returns-clause-named : goal.returns-clause-named
 returns-clause-named g c = answer_named c.loaded_from.result (returns-clause-own g c)
+
+pub returns-clause-fault : goal.returns-clause-fault
+returns-clause-fault g c =
+    unasked _ _ c.args.store.now _ _ _ (c.in_ok-rows.ensures.fault.still ∙ c.in_ok-descriptions.ensures.fault.still)
+    (never_faulted c.loaded_from.result c.loaded_from.ensures.unfaulted)

@@ -1,4 +1,4 @@
-use Rattle.mb_load.proofs.Common.{ap, arith, Cell, drop, IfOk, List, subst, Tables, take, ◌∙◌, ◌≡◌}
+use Rattle.mb_load.proofs.Common.{ap, arith, Cell, counted_then, drop, IfOk, List, subst, Tables, take, ◌∙◌, ◌≡◌}
 use Rattle.std.proofs.lemmas.List.{take_all}
 use Rattle.mb_load.proofs.reading.read_table.Goals as goal
 
@@ -11,3 +11,6 @@ returns-clause-answer g c tells =
     (ap (λ (t : Tables). take count (drop 0 (t.rows c.args.table))) c.in_ok-count.ensures.kept.told
     ∙ take_all count all (omega (arith, c.in_ok-count.ensures.answer tells)))
     (c.rows.ensures.answer (c.in_ok-count.ensures.kept.tells ∙ tells))
+
+pub returns-clause-fault : goal.returns-clause-fault
+returns-clause-fault g c = counted_then _ _ _ _ _ _ c.in_ok-count.ensures.fault.still c.rows.ensures.fault

@@ -1,4 +1,4 @@
-use Rattle.mb_metadata.proofs.Common.{begun_err, begun_ok, err_from_is_err_and, zoom_value_answer}
+use Rattle.mb_metadata.proofs.Common.{begun_err, begun_ok, err_from_is_err_and, unasked, zoom_value_answer}
 use Rattle.mb_metadata.proofs.values.get_metadata_zoom_value.Goals as goal
 
 pub returns-in_err-set-clause-answer : goal.returns-in_err-set-clause-answer
@@ -8,3 +8,6 @@ returns-in_err-set-clause-answer g c =
 
 pub returns-clause-answer : goal.returns-clause-answer
 returns-clause-answer g c = begun_ok (zoom_value_answer c.args.zoom_name) (g.S.TileStore.tells c.args.store.now) (g.S.TileStore.told c.args.store.now) c.in_ok-set.set c.zoom_value_in.result c.in_ok-set.ensures.answer c.in_ok-set.ensures.own c.zoom_value_in.ensures.answer
+
+pub returns-clause-fault : goal.returns-clause-fault
+returns-clause-fault g c = unasked _ _ c.args.store.now _ _ _ c.in_ok-set.ensures.fault.still c.zoom_value_in.ensures.fault

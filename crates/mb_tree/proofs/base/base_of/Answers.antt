@@ -1,4 +1,5 @@
 use Rattle.mb_tree.proofs.Common.{ap, err_from_is_err_and, false≢true, made_if, sym, ◌∙◌}
+use Rattle.mb_store.proofs.FaultLemmas.{counted_then}
 use Rattle.mb_tree.proofs.BaseLemmas.{base_wanting, is_new, is_old, made_new, new_from, new_named, new_whole, old_from, old_made, old_moved}
 use Rattle.mb_tree.proofs.base.base_of.Goals as goal
 
@@ -41,3 +42,6 @@ returns-clause-loaded g c t =
     old_from (g.S.TileStore.told c.args.store.now) (g.S.TileStore.told c.is_empty_database.new.store) c.old_set.result
     (λ e. false≢true (sym c.if-branch.false ∙ (c.in_ok-is_empty_database.ensures.answer t).1 e)) c.is_empty_database.ensures.kept.told
     (c.old_set.ensures.loaded (c.is_empty_database.ensures.kept.tells ∙ t))
+
+pub returns-clause-fault : goal.returns-clause-fault
+returns-clause-fault g c = counted_then _ _ _ _ _ _ c.in_ok-is_empty_database.ensures.fault.still c.old_set.ensures.fault

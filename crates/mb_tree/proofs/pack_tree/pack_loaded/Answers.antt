@@ -1,4 +1,5 @@
-use Rattle.mb_tree.proofs.Common.{All, ap, contains_key, Err, err_from_is_err_and, FileFormat, first_format, List, Option, paths_of, subst, sym, true, with_format, with_zooms, ℕ, ◌∙◌, ◌≡◌}
+use Rattle.mb_tree.proofs.Common.{All, ap, contains_key, Err, err_from_is_err_and, FileFormat, first_format, List, Option, paths_of, subst, sym, TreeFault, true, with_format, with_zooms, ℕ, ◌∙◌, ◌≡◌}
+use Rattle.mb_store.proofs.FaultLemmas.{unasked}
 use Rattle.mb_tree.proofs.FileLemmas.{all_there, moved_all}
 use Rattle.mb_tree.proofs.PackLemmas.{all_fit, are_packed}
 use Rattle.mb_tree.proofs.PathRefusals.{paths_no_fault, refuses_none, unfaulted}
@@ -20,9 +21,10 @@ returns-in_err-listed-clause-refused g c =
     rw (p.1, p.2) (refuses_none c.args.scheme (g.T.TileTree.tells c.args.tree.now) (g.T.TileTree.told c.args.tree.now) c.args.base.state _ (tree_wanting c.in_err-listed.field-0.0))
 
 pub returns-in_err-test_paths-clause-fault : goal.returns-in_err-test_paths-clause-fault
-returns-in_err-test_paths-clause-fault g c fault =
+returns-in_err-test_paths-clause-fault g c =
     let p = err_from_is_err_and c.from_residual-in_err-test_paths.result c.from_residual-in_err-test_paths.ensures.1 in
-    unfaulted c.from_residual-in_err-test_paths.result _ (p.1 ∙ ap Err p.2) (paths_no_fault (first_format c.as_slice-paths.result.now) c.as_slice-paths.result.now _ c.in_err-test_paths.ensures.0) fault
+    unasked g.T.TileTree.faults c.args.tree.now c.args.tree.now c.list.new.self c.from_residual-in_err-test_paths.result TreeFault c.in_ok-listed.ensures.fault.still
+    (λ fault. unfaulted c.from_residual-in_err-test_paths.result _ (p.1 ∙ ap Err p.2) (paths_no_fault (first_format c.as_slice-paths.result.now) c.as_slice-paths.result.now _ c.in_err-test_paths.ensures.0) fault)
 
 pub returns-clause-packed : goal.returns-clause-packed
 returns-clause-packed g c =

@@ -29,7 +29,7 @@ returns-in-Err-clause-causes g c =
     let before = g.B.Backend.faults c.args.backend.now in
     let old = g.S.TileStore.faults c.args.store.now in
     let new = g.S.TileStore.faults c.is_empty_database.new.store in
-    subst (λ x. ImportCauses c.args.max_tiles before before old new (Err x)) (sym c.of_store.ensures) (later_causes c.args.max_tiles before before old old new c.in-Err.error (omega arith) c.in-Err.ensures.fault)
+    subst (λ x. ImportCauses c.args.max_tiles before before old new (Err x)) (sym c.of_store.ensures) (later_causes c.args.max_tiles before before old old new c.in-Err.error (omega arith) c.in-Err.ensures.fault.rose)
 
 pub returns-in-Err-clause-left : goal.returns-in-Err-clause-left
 returns-in-Err-clause-left g c told = inl c.is_empty_database.ensures.kept.told
@@ -49,7 +49,7 @@ returns-in-Err-base_of-clause-causes g c =
     let old = g.S.TileStore.faults c.args.store.now in
     let mid = g.S.TileStore.faults c.is_empty_database.new.store in
     let new = g.S.TileStore.faults c.base_of.new.store in
-    subst (λ x. ImportCauses c.args.max_tiles before before old new (Err x)) (sym c.of_store-in-Err-base_of.ensures) (later_causes c.args.max_tiles before before old mid new c.in-Err-base_of.error c.is_empty_database.ensures.kept.faults c.in-Err-base_of.ensures.fault)
+    subst (λ x. ImportCauses c.args.max_tiles before before old new (Err x)) (sym c.of_store-in-Err-base_of.ensures) (later_causes c.args.max_tiles before before old mid new c.in-Err-base_of.error c.is_empty_database.ensures.kept.faults c.in-Err-base_of.ensures.fault.rose)
 
 pub returns-in-Err-base_of-clause-left : goal.returns-in-Err-base_of-clause-left
 returns-in-Err-base_of-clause-left g c told = inl (c.base_of.ensures.kept.told ∙ c.is_empty_database.ensures.kept.told)
@@ -108,7 +108,7 @@ returns-in-Err-store_set-clause-causes g c =
     let new = g.S.TileStore.faults c.store_set.new.store in
     let first = c.is_empty_database.ensures.kept.faults in
     let next = c.base_of.ensures.kept.faults in
-    subst (λ x. ImportCauses c.args.max_tiles before now old new (Err x)) (sym c.of_store-in-Err-store_set.ensures) (later_causes c.args.max_tiles before now old mid new c.in-Err-store_set.error (omega (arith, first, next)) c.in-Err-store_set.ensures.fault)
+    subst (λ x. ImportCauses c.args.max_tiles before now old new (Err x)) (sym c.of_store-in-Err-store_set.ensures) (later_causes c.args.max_tiles before now old mid new c.in-Err-store_set.error (omega (arith, first, next)) c.in-Err-store_set.ensures.fault.rose)
 
 pub returns-in-Err-store_set-clause-refused : goal.returns-in-Err-store_set-clause-refused
 returns-in-Err-store_set-clause-refused g c owed = not_unwritten c.in-Err-store_set.error c.in-Err-store_set.ensures.free (sym (ap is_unwritten c.of_store-in-Err-store_set.ensures) ∙ owed)
@@ -119,3 +119,6 @@ returns-in-Err-store_set-clause-left g c told =
     let late = c.base_of.ensures.kept in
     subst (IsLeft (g.S.TileStore.told c.args.store.now) (g.S.TileStore.told c.store_set.new.store)) (sym c.of_store-in-Err-store_set.ensures)
     (are_left (g.S.TileStore.told c.args.store.now) (g.S.TileStore.told c.base_of.new.store) (g.S.TileStore.told c.store_set.new.store) c.in-Err-store_set.error (late.told ∙ mid.told) c.in-Err-store_set.ensures.free (c.in-Err-store_set.ensures.left (late.tells ∙ (mid.tells ∙ told))))
+
+pub returns-in-Ok-store_set-clause-store_still : goal.returns-in-Ok-store_set-clause-store_still
+returns-in-Ok-store_set-clause-store_still g c = c.in-Ok-store_set.ensures.fault.still ∙ c.in-Ok-base_of.ensures.fault.still ∙ c.in-Ok.ensures.fault.still

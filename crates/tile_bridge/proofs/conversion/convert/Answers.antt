@@ -4,6 +4,7 @@ use Rattle.tile_bridge.proofs.ConvertLemmas.{none_told}
 use Rattle.tile_bridge.proofs.FoldLemmas.{as_long}
 use Rattle.tile_bridge.proofs.LeavesLemmas.{of_set}
 use Rattle.tile_bridge.proofs.OutcomeLemmas.{refused_causes, set_causes, store_refuses}
+use Rattle.mb_store.proofs.FaultLemmas.{still_anyway, still_then}
 use Rattle.tile_bridge.proofs.conversion.convert.Goals as goal
 
 pub returns-in_err-store_patches-clause-causes : goal.returns-in_err-store_patches-clause-causes
@@ -49,3 +50,12 @@ returns-clause-leaves g c =
     c.resolve.new.patches.len (not c.is_empty.result) (omega (arith, c.resolve.new.patches.ok.0, as_long g.P.TileStore.told patches c.resolve.new.patches.items c.in_ok-set.ensures.patches.told, length-map patches g.P.TileStore.told)) (ap not c.is_empty.ensures)
     (λ u. subst (λ a. IsStored (not c.is_empty.result) c.in_ok-set.set a base_now) c.in_ok-set.ensures.base_kept.told (c.in_ok-store_patches.ensures.stored (c.in_ok-set.ensures.base_kept.tells ∙ u)))
     (λ u. g.met.S.TileStore.sound c.store_patches.new.base (c.in_ok-store_patches.ensures.kept.tells ∙ c.in_ok-set.ensures.base_kept.tells ∙ u))))
+
+pub returns-clause-base_still : goal.returns-clause-base_still
+returns-clause-base_still g c = still_anyway c.convert_set.result (c.in_ok-store_patches.ensures.still ∙ c.in_ok-set.ensures.base_still)
+
+pub returns-clause-patches_still : goal.returns-clause-patches_still
+returns-clause-patches_still g c = still_anyway c.convert_set.result c.in_ok-set.ensures.patches_still
+
+pub returns-clause-medium_still : goal.returns-clause-medium_still
+returns-clause-medium_still g c = still_then c.convert_set.result (λ stands. stands ∙ c.in_ok-length.ensures.still) c.convert_set.ensures.still

@@ -3,6 +3,7 @@ use Rattle.tile_bridge.proofs.ConvertLemmas.{none_told}
 use Rattle.tile_bridge.proofs.FoldLemmas.{has_failed}
 use Rattle.tile_bridge.proofs.LeavesLemmas.{of_set}
 use Rattle.tile_bridge.proofs.OutcomeLemmas.{refused_causes, set_causes}
+use Rattle.mb_store.proofs.FaultLemmas.{still_then}
 use Rattle.tile_bridge.proofs.owned.convert_owned.Goals as goal
 
 pub returns-in_err-set-clause-causes : goal.returns-in_err-set-clause-causes
@@ -47,3 +48,6 @@ returns-clause-leaves g c =
     (subst (gives c.in_ok-set.set.state) (sym (c.chosen.ensures.writer ∙ ap (λ (o : ConvertOptions). unwrap_or c.in_ok-made.made o.writer) c.asked-asked.ensures)) c.in_ok-made.ensures.given)
     (none_told _ _ c.in_ok-length.ensures.answer c.if-length-ne0.false) c.len.ensures.kept.told c.convert_set.ensures.causes c.convert_set.ensures.leaves c.convert_set.ensures.places c.convert_set.ensures.aggregate c.in_ok-set.ensures.aggregate
     (λ u. absurd (cc)))
+
+pub returns-clause-medium_still : goal.returns-clause-medium_still
+returns-clause-medium_still g c = still_then c.convert_set.result (λ stands. stands ∙ c.in_ok-length.ensures.still) c.convert_set.ensures.still

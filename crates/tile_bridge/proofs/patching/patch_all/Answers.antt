@@ -26,7 +26,7 @@ pub loop-index-preserved : goal.loop-index-preserved
 loop-index-preserved g c =
     folded_more g.P.TileStore.tells g.P.TileStore.told g.P.TileStore.faults g.P.TileStore.steady c.args.force c.args.base c.args.patches.now.items c.loop-index.patches.items c.loop-index.index c.loop-index.set c.loop-index.invariant
     c.index_mut.result.now c.patch_at.new.patch (omega (arith, c.loop-index-test.true, c.len-index-end.ensures, as_long g.P.TileStore.told c.args.patches.now.items c.loop-index.patches.items c.loop-index.invariant.read.told)) c.index_mut.ensures.value c.patch_at.ensures.kept
-    c.in_ok-next.next c.in_ok-next.ensures.state c.in_ok-next.ensures.held c.in_ok-next.ensures.loaded
+    c.in_ok-next.next c.in_ok-next.ensures.state c.in_ok-next.ensures.held c.in_ok-next.ensures.loaded c.in_ok-next.ensures.still
 
 pub returns-clause-state : goal.returns-clause-state
 returns-clause-state g c = due_all g.P.TileStore.tells g.P.TileStore.told g.P.TileStore.faults g.P.TileStore.steady c.args.force c.args.base c.args.patches.now.items c.loop-index.patches.items c.loop-index.index c.loop-index.set c.loop-index.invariant (omega (arith, c.loop-index-test.false, c.len-index-end.ensures, as_long g.P.TileStore.told c.args.patches.now.items c.loop-index.patches.items c.loop-index.invariant.read.told))

@@ -1,4 +1,4 @@
-use Rattle.tile_bridge.proofs.Common.{arith, id_of, reads_then}
+use Rattle.tile_bridge.proofs.Common.{arith, id_of, reads_then, ◌∙◌}
 use Rattle.tile_bridge.proofs.ReadingBackLemmas.{all_answers, answer_more, memory_answers, reads_more, tile_answers}
 use Rattle.tile_bridge.proofs.reading_back.read_answers.Goals as goal
 
@@ -18,6 +18,7 @@ loop-coord-preserved g c =
       reads = reads_more (g.B.Backend.reads c.args.backend.now) (g.B.Backend.reads c.loop-coord.backend) (g.B.Backend.reads c.read_answer.new.backend) c.loop-coord.tiles.items c.push.new.self.items c.in_ok-tile.tile c.in_ok-push.ensures.items c.loop-coord.invariant.reads c.in_ok-tile.ensures.reads;
       counted = omega (arith, c.loop-coord.invariant.counted, c.in_ok-tile.ensures.counted);
       kept = reads_then _ _ _ _ _ _ _ c.loop-coord.invariant.kept c.in_ok-tile.ensures.kept;
+      still = c.in_ok-tile.ensures.still ∙ c.loop-coord.invariant.still;
     }
 
 pub returns-clause-answers : goal.returns-clause-answers

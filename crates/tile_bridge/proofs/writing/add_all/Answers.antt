@@ -33,4 +33,5 @@ loop-index-preserved g c =
           ),
       search rules,
       medium_then g.M.Backend.told g.M.Backend.versions g.M.Backend.reads g.M.Backend.faults g.M.Backend.steady c.args.medium.now c.loop-index.medium c.add_raw_tile_by_id.new.medium i.2 c.in_ok-add_raw_tile_by_id.ensures.kept,
+      c.in_ok-add_raw_tile_by_id.ensures.still ∙ i.3,
     )

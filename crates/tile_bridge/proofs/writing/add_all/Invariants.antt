@@ -8,3 +8,4 @@ invariant-loop-index g l =
     → (taken : List (ℕ × List ℕ)) × TookAll (g.M.Backend.told l.fn.medium) (take l.index (shown l.set.state.tiles l.adds)) taken × Writes o (g.M.Backend.told l.medium) l.state taken)
     × (has_failed l.state ≡ false)
     × KeepsMedium g.M.Backend.told g.M.Backend.versions g.M.Backend.reads g.M.Backend.faults g.M.Backend.steady l.fn.medium l.medium
+    × (g.M.Backend.faults l.medium ≡ g.M.Backend.faults l.fn.medium)

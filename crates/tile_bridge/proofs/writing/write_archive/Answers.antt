@@ -36,3 +36,6 @@ returns-clause-shown g c =
     let adds = shown c.args.set.now.state.tiles c.args.adds.now in
     let t = c.in_ok-add_all.ensures.added o c.in_ok-state.ensures.begun in
     told_as_given (λ adds. IsHiddenOr (archive o adds)) _ (g.M.Backend.told c.finalize.new.medium) adds t.0 (c.finalize.ensures.kept.tells ∙ c.add_all.ensures.kept.tells) t.1 (c.finalize.ensures.shown o t.0 t.2)
+
+pub returns-clause-still : goal.returns-clause-still
+returns-clause-still g c = on_ok_weaker c.finalize.result (λ stands. stands ∙ c.in_ok-add_all.ensures.still ∙ c.in_ok-state.ensures.still) c.finalize.ensures.still

@@ -10,6 +10,7 @@ loop-id-init g c = (
   c.requires.alive,
   medium_same _ _ _ _ _ _,
   let n = ap length (c.into_iter-id-iterator.ensures.into_iter_gives ∙ c.iter_coords-id-items.ensures) in omega (arith, n, length-range_with_len c.args.part.tile_id c.args.part.run_length),
+  refl,
 )
 
 pub add_raw_tile_by_id-requires : goal.add_raw_tile_by_id-requires
@@ -37,6 +38,7 @@ loop-id-preserved g c =
       e.failed ∙ i.2,
       medium_then _ _ _ _ _ _ _ _ i.3 e.kept,
       let n = ap length c.in-Some.ensures.steps in omega (arith, e.reads, i.4, n),
+      e.still ∙ i.5,
     )
 
 pub returns-in-Err-clause-added : goal.returns-in-Err-clause-added

@@ -10,3 +10,4 @@ invariant-loop-id g l =
     × (has_failed l.writer ≡ false)
     × KeepsMedium g.M.Backend.told g.M.Backend.versions g.M.Backend.reads g.M.Backend.faults g.M.Backend.steady l.fn.medium l.medium
     × (g.M.Backend.reads l.medium + length l.id-iterator ≤ g.M.Backend.reads l.fn.medium + l.fn.part.run_length)
+    × (g.M.Backend.faults l.medium ≡ g.M.Backend.faults l.fn.medium)

@@ -21,6 +21,8 @@ loop-part-preserved-in-Ok-add_part g c =
       medium_then _ _ _ _ _ _ _ _ i.5 a.kept,
       let n : tile_count c.loop-part.rest.now ≡ tile_count (c.in-Some.part.now ∷ c.in-Some.others.now) = ap tile_count c.in-Some.ensures.cases.0 in omega (arith, i.6, a.compared, n),
       let n : length c.loop-part.rest.now ≡ length (c.in-Some.part.now ∷ c.in-Some.others.now) = ap length c.in-Some.ensures.cases.0 in omega (arith, i.7, c.read_contents.ensures.reads.most, n),
+      c.in-Ok.ensures.still ∙ i.8,
+      a.still ∙ i.9,
     )
 
 pub loop-part-preserved : goal.loop-part-preserved
@@ -42,6 +44,8 @@ loop-part-preserved g c =
       medium_then _ _ _ _ _ _ _ _ i.5 a.kept,
       let n : tile_count c.loop-part.rest.now ≡ tile_count (c.in-Some.part.now ∷ c.in-Some.others.now) = ap tile_count c.in-Some.ensures.cases.0 in omega (arith, i.6, a.compared, n),
       let n : length c.loop-part.rest.now ≡ length (c.in-Some.part.now ∷ c.in-Some.others.now) = ap length c.in-Some.ensures.cases.0 in omega (arith, i.7, c.read_contents.ensures.reads.most, n),
+      c.in-Ok.ensures.still ∙ i.8,
+      a.still ∙ i.9,
     )
 
 pub returns-clause-added : goal.returns-clause-added

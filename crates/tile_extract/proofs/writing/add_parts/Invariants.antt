@@ -12,6 +12,8 @@ invariant-loop-part g l =
     × KeepsMedium g.M.Backend.told g.M.Backend.versions g.M.Backend.reads g.M.Backend.faults g.M.Backend.steady l.fn.medium l.medium
     × (g.M.Backend.reads l.medium + tile_count l.rest ≤ g.M.Backend.reads l.fn.medium + tile_count l.parts)
     × (g.B.Backend.reads l.source + length l.rest ≤ g.B.Backend.reads l.fn.source + length l.parts)
+    × (g.B.Backend.faults l.source ≡ g.B.Backend.faults l.fn.source)
+    × (g.M.Backend.faults l.medium ≡ g.M.Backend.faults l.fn.medium)
 
 abbrev pub decreases-loop-part : goal.decreases-loop-part
 decreases-loop-part g l = length l.rest

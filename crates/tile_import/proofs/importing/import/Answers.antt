@@ -48,3 +48,6 @@ returns-in-Err-commit_set-clause-answer g c =
     let store = g.S.TileStore.told c.args.store.now in
     subst (λ x. IsAnswered c.args.max_tiles told tells store (Err x)) (sym c.of_store-in-Err-commit_set.ensures)
     (commit_answered c.args.max_tiles told tells store c.in-Ok.base.state c.in-Err-commit_set.error c.in-Ok.ensures.answer c.in-Err-commit_set.ensures.free)
+
+pub returns-in-Ok-commit_set-clause-store_still : goal.returns-in-Ok-commit_set-clause-store_still
+returns-in-Ok-commit_set-clause-store_still g c = c.in-Ok-commit_set.ensures.fault.still ∙ c.in-Ok.ensures.fault.still

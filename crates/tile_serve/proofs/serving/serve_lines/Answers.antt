@@ -12,6 +12,8 @@ loop-line-init g c = record {
   served = serving_begun (g.B.Backend.told c.args.source.now) (opened_as c.args.state.now) (g.B.Backend.versions c.args.source.now) (tiles_of c.args.state.now) (g.B.Backend.reads c.args.source.now) c.args.requests.now (g.O.Sink.held c.args.output.now);
   same = refl;
   later = omega arith;
+  source_still = refl;
+  output_still = refl;
   source_kept = reads_same g.B.Backend.told g.B.Backend.versions g.B.Backend.faults g.B.Backend.steady c.args.source.now;
   output_kept = sink_same g.O.Sink.held g.O.Sink.faults g.O.Sink.steady c.args.output.now;
 }
@@ -33,6 +35,8 @@ loop-line-preserved g c =
           i.served;
       same = e.same ∙ i.same;
       later = omega (arith, i.later, e.later);
+      source_still = e.source_still ∙ i.source_still;
+      output_still = e.output_still ∙ i.output_still;
       source_kept = reads_then g.B.Backend.told g.B.Backend.versions g.B.Backend.faults g.B.Backend.steady c.args.source.now c.loop-line.source c.serve_line.new.source i.source_kept e.source_kept;
       output_kept = sink_then g.O.Sink.held g.O.Sink.faults g.O.Sink.steady c.args.output.now c.loop-line.output c.serve_line.new.output i.output_kept e.output_kept;
     }

@@ -12,6 +12,8 @@ invariant-loop-line g l =
           l.fn.requests l.rest (tiles_of l.state) (b.reads l.source) (k.held l.fn.output) (k.held l.output));
       same : opened_as l.state ≡ opened_as l.fn.state;
       later : b.reads l.fn.source ≤ b.reads l.source;
+      source_still : b.faults l.source ≡ b.faults l.fn.source;
+      output_still : k.faults l.output ≡ k.faults l.fn.output;
       source_kept : ReadsOnly b.told b.versions b.faults b.steady l.fn.source l.source;
       output_kept : KeepsSink k.held k.faults k.steady l.fn.output l.output;
     }

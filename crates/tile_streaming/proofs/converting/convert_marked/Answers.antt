@@ -1,4 +1,5 @@
 use Rattle.tile_streaming.proofs.Common.{ap, ConvertOptions, due_of, Err, IfSome, inl, IsMarkedFrom, List, Option, refl, Result, Rose, RoseAt, StreamCauses, StreamError, StreamLeaves, StreamReport, subst, ℕ, [], ◌∙◌, ◌∷◌, ◌||◌, ◌≡◌}
+use Rattle.mb_store.proofs.FaultLemmas.{still_then}
 use Rattle.tile_bridge.specs.declared.error.ConvertError.TheVariants.{MediumFault, StoreFault}
 use Rattle.tile_streaming.proofs.DueLemmas.{causes_moved, leaves_moved, rose_more}
 use Rattle.tile_streaming.proofs.StepLemmas.{same_error}
@@ -81,3 +82,6 @@ pub returns-clause-aggregate : goal.returns-clause-aggregate
 returns-clause-aggregate g c =
     asked_is c.convert_hashed.result c.in_ok-aggregate.aggregate ((g.O.ArchiveOptions.asks c.args.options.now).verify || c.args.hash)
     (c.in_ok-aggregate.ensures.asked ∙ ap (λ (o : ConvertOptions). o.verify || c.args.hash) c.asked.ensures) c.convert_hashed.ensures.aggregate
+
+pub returns-clause-base_still : goal.returns-clause-base_still
+returns-clause-base_still g c = still_then c.convert_hashed.result (λ stands. stands ∙ c.in_ok-aggregate.ensures.still) c.convert_hashed.ensures.base_still

@@ -7,6 +7,7 @@ pub loop-spot-init : goal.loop-spot-init
 loop-spot-init g c = (
   λ a taken. record { contents = []; read = tt; taken = taken },
   record { told = refl; tells = refl; faults = omega arith; steady = λ s. s; calm = λ s. refl },
+  refl,
 )
 
 pub loop-spot-preserved : goal.loop-spot-preserved
@@ -23,6 +24,7 @@ loop-spot-preserved g c =
         steady = λ s. c.in_ok-hash_mark.ensures.kept.steady (i.1.steady s);
         calm = λ s. c.in_ok-hash_mark.ensures.kept.calm (i.1.steady s) ∙ i.1.calm s;
       },
+      c.in_ok-hash_mark.ensures.still ∙ i.2,
     )
 
 pub returns-in_err-hash_mark-clause-causes : goal.returns-in_err-hash_mark-clause-causes

@@ -1,5 +1,6 @@
 use Rattle.tile_streaming.proofs.Common.{ap, err_from_is_err_and, is_free, Some, store_free, sym, Tables, tile_table, ◌∙◌}
 use Rattle.mb_load.proofs.StateLemmas.{no_fault}
+use Rattle.mb_store.proofs.FaultLemmas.{unasked}
 use Rattle.tile_streaming.proofs.KnownLemmas.{present_of}
 use Rattle.tile_streaming.proofs.MarkedLemmas.{free_from, never_faulted, twice_from}
 use Rattle.tile_streaming.proofs.TableLemmas.{contents_moved}
@@ -29,10 +30,11 @@ returns-in_err-findings-clause-marked g c =
     twice_from c.args.layout _ _ h.contents c.from_residual-in_err-findings.result p.0 (contents_moved c.args.layout _ _ _ _ h.contents kept.tells kept.told h.are) p.1 (λ free. tests.0 (ap is_free (sym p.2) ∙ free) ∙ ap Some (sym p.2))
 
 pub returns-in_err-findings-clause-fault : goal.returns-in_err-findings-clause-fault
-returns-in_err-findings-clause-fault g c = λ fault.
+returns-in_err-findings-clause-fault g c =
     let p = err_from_is_err_and c.from_residual-in_err-findings.result c.from_residual-in_err-findings.ensures.1 in
     let h = c.in_ok-seen.ensures.seen in
-    no_fault c.from_residual-in_err-findings.result p.0 _ p.1 p.2 (c.in_err-findings.ensures.tests c.args.layout c.algorithm_or-algorithm.result h.contents h.sees).1 fault
+    unasked _ _ c.args.store.now _ _ _ (c.in_ok-seen.ensures.fault.still ∙ c.in_ok-metadata.ensures.fault.still)
+    (λ fault. no_fault c.from_residual-in_err-findings.result p.0 _ p.1 p.2 (c.in_err-findings.ensures.tests c.args.layout c.algorithm_or-algorithm.result h.contents h.sees).1 fault)
 
 pub returns-in_err-rows-clause-marked : goal.returns-in_err-rows-clause-marked
 returns-in_err-rows-clause-marked g c =
@@ -58,9 +60,10 @@ returns-clause-marked g c =
     }
 
 pub returns-clause-fault : goal.returns-clause-fault
-returns-clause-fault g c = λ fault.
+returns-clause-fault g c =
     let layout = c.args.layout in
     let a = c.algorithm_or-algorithm.result in
     let h = c.in_ok-seen.ensures.seen in
     let s = c.in_ok-rows.ensures.seen h.contents (c.in_ok-findings.ensures.known layout a h.contents h.sees) (c.in_ok-findings.ensures.findings layout a h.contents h.sees) in
-    never_faulted c.settle.result (c.settle.ensures.unfaulted c.in_ok-metadata.metadata.items h.contents s.rows a s.sees c.named_in-named.ensures.tests) fault
+    unasked _ _ c.args.store.now _ _ _ (c.in_ok-rows.ensures.fault.still ∙ c.in_ok-seen.ensures.fault.still ∙ c.in_ok-metadata.ensures.fault.still)
+    (λ fault. never_faulted c.settle.result (c.settle.ensures.unfaulted c.in_ok-metadata.metadata.items h.contents s.rows a s.sees c.named_in-named.ensures.tests) fault)

@@ -1,4 +1,5 @@
 use Rattle.mb_load.proofs.StateLemmas.{no_fault}
+use Rattle.mb_store.proofs.FaultLemmas.{counted_then, unasked}
 use Rattle.tile_streaming.proofs.Common.{ap, Err, err_from_is_err_and, is_free, store_free, sym, ◌∙◌}
 use Rattle.tile_streaming.proofs.MarkedLemmas.{free_own, own_marked, refused_at, refused_own, told_marked}
 use Rattle.tile_streaming.proofs.marking.read_marks.Goals as goal
@@ -21,7 +22,7 @@ returns-in_err-layout-clause-own g c =
 pub returns-in_err-layout-clause-fault : goal.returns-in_err-layout-clause-fault
 returns-in_err-layout-clause-fault g c =
     let p = err_from_is_err_and c.from_residual-in_err-layout.result c.from_residual-in_err-layout.ensures.1 in
-    λ h. no_fault c.from_residual-in_err-layout.result p.0 _ p.1 p.2 c.in_err-layout.ensures.unfaulted h
+    unasked _ _ c.args.store.now _ _ _ c.in_ok-descriptions.ensures.fault.still (λ h. no_fault c.from_residual-in_err-layout.result p.0 _ p.1 p.2 c.in_err-layout.ensures.unfaulted h)
 
 pub returns-clause-answer : goal.returns-clause-answer
 returns-clause-answer g c t =
@@ -30,3 +31,6 @@ returns-clause-answer g c t =
 pub returns-clause-own : goal.returns-clause-own
 returns-clause-own g c =
     own_marked c.in_ok-layout.layout c.deref.result.now (record { is_layout = c.in_ok-layout.ensures.layout; metadata = c.in_ok-layout.ensures.metadata; index = c.in_ok-layout.ensures.index }) _ _ c.marked_set.result c.marked_set.ensures.marked
+
+pub returns-clause-fault : goal.returns-clause-fault
+returns-clause-fault g c = counted_then _ _ _ _ _ _ c.in_ok-descriptions.ensures.fault.still c.marked_set.ensures.fault

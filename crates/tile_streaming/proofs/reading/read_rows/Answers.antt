@@ -5,6 +5,7 @@ use Rattle.tile_streaming.proofs.reading.read_rows.Goals as goal
 pub loop-page-init : goal.loop-page-init
 loop-page-init g c = record {
   kept = record { told = refl; tells = refl; faults = omega arith; steady = λ s. s; calm = λ s. refl };
+  still = refl;
   seen = λ contents knows are. record { rows = []; are_told = λ t. refl; sees = c.behind-seen.ensures c.args.layout c.args.algorithm contents are };
 }
 

@@ -1,4 +1,5 @@
-use Rattle.tile_streaming.proofs.Common.{ConvertOptions, due_of, Err, IsEmpty, StreamCauses, StreamLeaves, subst, sym}
+use Rattle.tile_streaming.proofs.Common.{ConvertOptions, due_of, Err, IsEmpty, StreamCauses, StreamLeaves, subst, sym, ◌∙◌}
+use Rattle.mb_store.proofs.FaultLemmas.{still_then}
 use Rattle.tile_streaming.proofs.DueLemmas.{test_no_store, test_refused, test_rose}
 use Rattle.tile_streaming.proofs.StreamLemmas.{error_of, same_word}
 use Rattle.tile_streaming.specs.declared.error.StreamError.TheVariants.{Convert}
@@ -30,3 +31,6 @@ returns-in-Err-clause-store_fault g c = λ place h. absurd (test_no_store c.aske
 
 pub returns-in-Err-clause-fault : goal.returns-in-Err-clause-fault
 returns-in-Err-clause-fault g c = λ h. test_rose c.asked.result.now.writer (g.M.Backend.told c.args.medium.now) (g.M.Backend.faults c.args.medium.now) (g.M.Backend.faults c.test_medium.new.medium) c.in-Err.error (same_word c.in-Err.error _ (error_of (Convert c.in-Err.error) _ h)) c.in-Err.ensures.causes
+
+pub returns-in-Ok-clause-medium_still : goal.returns-in-Ok-clause-medium_still
+returns-in-Ok-clause-medium_still g c = still_then c.convert_tested.result (λ stands. stands ∙ c.in-Ok.ensures.still) c.convert_tested.ensures.medium_still

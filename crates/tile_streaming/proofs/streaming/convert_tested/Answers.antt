@@ -1,4 +1,5 @@
 use Rattle.tile_streaming.proofs.Common.{ap, due_of, Err, refusal_at, RoseAt, StreamCauses, StreamError, subst, sym, [], ◌∙◌, ◌∷◌}
+use Rattle.mb_store.proofs.FaultLemmas.{still_then}
 use Rattle.tile_streaming.proofs.DueLemmas.{causes_moved, leaves_moved, marked_of, marks_refused, no_medium, rose_more, store_error}
 use Rattle.tile_streaming.proofs.StreamLemmas.{error_of, same_word}
 use Rattle.tile_streaming.proofs.streaming.convert_tested.Goals as goal
@@ -29,7 +30,10 @@ returns-in-Err-clause-causes g c =
 pub returns-in-Err-clause-store_fault : goal.returns-in-Err-clause-store_fault
 returns-in-Err-clause-store_fault g c = λ place h.
     let is = store_error c.in-Err.error place (same_word (refusal_at 0 c.in-Err.error) _ (sym c.of_store.ensures ∙ error_of c.of_store.result _ h)) in
-    subst (λ p. RoseAt p (g.S.TileStore.faults c.args.base.now ∷ []) (g.S.TileStore.faults c.read_marks.new.store ∷ [])) (sym is.1) (c.in-Err.ensures.fault (ap Err is.0))
+    subst (λ p. RoseAt p (g.S.TileStore.faults c.args.base.now ∷ []) (g.S.TileStore.faults c.read_marks.new.store ∷ [])) (sym is.1) (c.in-Err.ensures.fault.rose (ap Err is.0))
 
 pub returns-in-Err-clause-fault : goal.returns-in-Err-clause-fault
 returns-in-Err-clause-fault g c = λ h. absurd (no_medium c.in-Err.error (same_word (refusal_at 0 c.in-Err.error) _ (sym c.of_store.ensures ∙ error_of c.of_store.result _ h)))
+
+pub returns-in-Ok-clause-base_still : goal.returns-in-Ok-clause-base_still
+returns-in-Ok-clause-base_still g c = still_then c.convert_marked.result (λ stands. stands ∙ c.in-Ok.ensures.fault.still) c.convert_marked.ensures.base_still

@@ -57,6 +57,8 @@ loop-mark-preserved g c =
         calm = λ s. c.in_ok-add_mark.ensures.store_kept.calm (i.2.steady s) ∙ i.2.calm s;
       },
       medium_then g.M.Backend.told g.M.Backend.versions g.M.Backend.reads g.M.Backend.faults g.M.Backend.steady c.args.medium.now c.loop-mark.medium c.add_mark.new.medium i.3 c.in_ok-add_mark.ensures.medium_kept,
+      c.in_ok-add_mark.ensures.store_still ∙ i.4,
+      c.in_ok-add_mark.ensures.medium_still ∙ i.5,
     )
 
 pub loop-mark-init : goal.loop-mark-init
@@ -65,4 +67,6 @@ loop-mark-init g c = (
   c.requires.alive,
   record { told = refl; tells = refl; faults = omega arith; steady = λ s. s; calm = λ s. refl },
   medium_same g.M.Backend.told g.M.Backend.versions g.M.Backend.reads g.M.Backend.faults g.M.Backend.steady c.args.medium.now,
+  refl,
+  refl,
 )

@@ -8,3 +8,5 @@ invariant-loop-mark g l =
     × (has_failed l.state ≡ false)
     × ReadsOnly g.S.TileStore.told g.S.TileStore.tells g.S.TileStore.faults g.S.TileStore.steady l.fn.store l.store
     × KeepsMedium g.M.Backend.told g.M.Backend.versions g.M.Backend.reads g.M.Backend.faults g.M.Backend.steady l.fn.medium l.medium
+    × (g.S.TileStore.faults l.store ≡ g.S.TileStore.faults l.fn.store)
+    × (g.M.Backend.faults l.medium ≡ g.M.Backend.faults l.fn.medium)

@@ -13,6 +13,7 @@ invariant-loop-entry g l =
     × ReadsOnly g.B.Backend.told g.B.Backend.versions g.B.Backend.faults g.B.Backend.steady l.fn.backend l.backend
     × IfSome (g.B.Backend.told l.fn.backend) (λ b. SoFar (header_of l.state) b l.at l.left l.limit l.entries l.rest l.fn.met l.met (g.B.Backend.reads l.fn.backend) (g.B.Backend.reads l.backend))
     × (g.B.Backend.reads l.fn.backend ≤ g.B.Backend.reads l.backend)
+    × (g.B.Backend.faults l.backend ≡ g.B.Backend.faults l.fn.backend)
 
 abbrev pub decreases-loop-entry : goal.decreases-loop-entry
 decreases-loop-entry g l = length l.rest

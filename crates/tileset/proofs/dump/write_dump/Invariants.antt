@@ -15,6 +15,8 @@ invariant-loop-at g l =
       within : l.at ≤ l.length;
       output_kept : KeepsSink o.held o.faults o.steady l.fn.output l.output;
       medium_kept : KeepsMedium m.told m.versions m.reads m.faults m.steady l.fn.medium l.medium;
+      output_still : o.faults l.output ≡ o.faults l.fn.output;
+      medium_still : m.faults l.medium ≡ m.faults l.fn.medium;
     }
 
 abbrev pub decreases-loop-at : goal.decreases-loop-at

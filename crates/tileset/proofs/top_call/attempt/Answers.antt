@@ -1,7 +1,8 @@
-use Rattle.tileset.proofs.Common.{Given, IsScript, rules, script_text}
+use Rattle.tileset.proofs.Common.{Given, IsScript, outcome_of, rules, script_text}
 use Rattle.tileset.proofs.AnswerLemmas.{exact_by, exact_unread}
 use Rattle.tileset.proofs.PrintedLemmas.{printed_by}
 use Rattle.tileset.proofs.RunLemmas.{causes_by, medium_by, output_by}
+use Rattle.tileset.proofs.StandsLemmas.{input_stands}
 use Rattle.tileset.proofs.top_call.attempt.Goals as goal
 
 pub returns-in_err-script-clause-exact : goal.returns-in_err-script-clause-exact
@@ -43,3 +44,6 @@ returns-clause-printed g c =
     let s = script_text c.in_ok-script.script in
     let is : IsScript given s = record { asked = c.in-Some.command; words = search rules; script = c.in_ok-script.ensures.script } in
     printed_by given s _ _ _ is c.convert_script.ensures.printed
+
+pub returns-clause-input_still : goal.returns-clause-input_still
+returns-clause-input_still g c = input_stands _ _ (outcome_of c.convert_script.result) c.in_ok-script.ensures.input_still

@@ -1,7 +1,8 @@
 use Rattle.tileset.proofs.RunLemmas.{archive_left, done_output, reported_causes, reported_medium, reported_output, text_moved}
-use Rattle.tileset.proofs.Common.{Gains, GainsFront, script_text, subst}
+use Rattle.tileset.proofs.Common.{Gains, GainsFront, refl, script_text, subst}
 use Rattle.tileset.proofs.PrintedLemmas.{unprinted}
 use Rattle.tileset.specs.Printed.{Prints}
+use Rattle.tileset.proofs.StandsLemmas.{medium_ended, output_ended}
 use Rattle.tileset.proofs.top_call.convert_script.Goals as goal
 
 pub returns-in_err-write_report-clause-causes : goal.returns-in_err-write_report-clause-causes
@@ -47,3 +48,10 @@ returns-in_err-write_report-clause-printed g c =
 pub returns-clause-printed : goal.returns-clause-printed
 returns-clause-printed g c =
     (c.in_ok-report.report, c.in_ok-report.ensures.reported, subst (λ q. Prints c.args.command q c.in_ok-report.report (g.O.Sink.held c.args.output.now) (g.O.Sink.held c.write_report.new.output)) c.as_slice-queries.ensures.value c.in_ok-write_report.ensures.printed)
+
+pub returns-in_err-write_report-clause-output_still : goal.returns-in_err-write_report-clause-output_still
+returns-in_err-write_report-clause-output_still g c = output_ended _ _ _ c.in_err-write_report.field-0.0 c.from_residual-in_err-write_report.result refl c.in_err-write_report.ensures.output_still c.from_residual-in_err-write_report.ensures.1
+
+pub returns-in_err-write_report-clause-medium_still : goal.returns-in_err-write_report-clause-medium_still
+returns-in_err-write_report-clause-medium_still g c =
+    medium_ended _ _ _ c.in_err-write_report.field-0.0 c.from_residual-in_err-write_report.result c.in_ok-report.ensures.medium_still c.in_err-write_report.ensures.medium_still c.from_residual-in_err-write_report.ensures.1

@@ -117,14 +117,14 @@ open_cache_spec 𝓤 𝓛 𝓜 𝓡 wired Y L gs ds ms =
     use0 𝓛 (raw ((c κs a).ensures tt (Ok d) (at_exit En κs a (tt, (tt, tt)))))
     (beside 𝓛 (rests_ok 𝓛 R m (λ (t : W.Denot). t.store.ghost_name) TE.Denot (LeftByOpening {A = W.Denot} gs.tells gs.told gs.faults gs.steady m.now (Ok d)) d refl)
     (holds 𝓛 answer (holds 𝓛 (λ steady below same. IfErr-at_err (λ _. ⊥) same tt)
-    (holds 𝓛 refl (holds 𝓛 begun (holds 𝓛 agrees (holds 𝓛 kept (fact_i 𝓤 _ (emp 𝓤) tt)))))))) $
+    (holds 𝓛 refl (holds 𝓛 begun (holds 𝓛 agrees (holds 𝓛 kept (holds 𝓛 fault.still (fact_i 𝓤 _ (emp 𝓤) tt))))))))) $
     nothing ! $ nothing ! $ fjoin ! $ nothing ! $ fjoin ! $ move ! (3 ∷ 0 ∷ 2 ∷ 1 ∷ []) $ by ! (leaves 𝓛 En hs c z rv (Ok d) (tt, (tt, tt)) (tt, (tt, tt))))))))))))
     (λ error is. rewrite ! 3 (λ (r' : Made.Denot). ‵ (Made.own_val r' (v ∷ []))) is refl $ rewrite ! 2 (λ (r' : Made.Denot). raw ((sc κs' a').ensures tt r' (at_exit sEn κs' a' ws))) is refl $ move ! (2 ∷ []) $
     told ! (λ answer. told ! (λ begun. told ! (λ agrees. told ! (λ left. told ! (λ kept. told ! (λ fault. heard ! _ (λ own. move ! (2 ∷ []) $
     err_out WS TE error-laws.the_row_laws ! error v (λ u ev good.
     let rv : Val = live 1 (of_list (u ∷ [])) in let before : ℕ = gs.faults m.now in let now : ℕ = gs.faults w in
     let Leaves : Y.Denot → Type 0 = LeftByOpening {A = W.Denot} gs.tells gs.told gs.faults gs.steady m.now (Err error) in
-    let rose = fault_again WS.Denot W.Denot error before now fault in
+    let rose = fault_again WS.Denot W.Denot error before now fault.rose in
     let leaves-it : Leaves w = record { left = left; kept = kept; fault = rose } in
     lands_as ! ev refl (and_tt _ good.0, (record { fits = lit< tt }, (good.1, tt))) $
     first ! $ switches_on ! (get_tag ! (vrt ! refl (fld ! refl (stop !))) (whole !)) $ exec ! 𝓣.C 𝓣.Λ Ev (arm_body 1 (head (after 2 fn.body))) (then_runs 𝓛 𝓣.C 𝓣.Λ Ev (after 3 fn.body) (at_ret Ev Post)) $
@@ -138,5 +138,5 @@ open_cache_spec 𝓤 𝓛 𝓜 𝓡 wired Y L gs ds ms =
     use1 𝓛 (raw ((c κs a).ensures tt (Err error) (at_exit En κs a (tt, (tt, tt)))))
     (beside 𝓛 (rests_err 𝓛 R m (λ (t : W.Denot). t.store.ghost_name) TE.Denot Leaves error w leaves-it) (holds 𝓛 answer
     (holds 𝓛 (λ steady below same. no_fault {A = W.Denot} before now (Err error) rose below (kept.calm steady) same)
-    (holds 𝓛 tt (holds 𝓛 (λ tells. tt) (holds 𝓛 (λ tells. tt) (holds 𝓛 tt (fact_i 𝓤 _ (emp 𝓤) own)))))))) $
+    (holds 𝓛 tt (holds 𝓛 (λ tells. tt) (holds 𝓛 (λ tells. tt) (holds 𝓛 tt (holds 𝓛 tt (fact_i 𝓤 _ (emp 𝓤) own))))))))) $
     nothing ! $ nothing ! $ fjoin ! $ nothing ! $ fjoin ! $ move ! (3 ∷ 0 ∷ 2 ∷ 1 ∷ []) $ by ! (leaves 𝓛 En hs c z rv (Err error) (tt, (tt, tt)) (tt, (tt, tt)))))))))))))))))))

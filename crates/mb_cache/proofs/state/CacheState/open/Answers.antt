@@ -1,4 +1,5 @@
 use Rattle.mb_cache.proofs.Common.{ap, Cache, err_from_is_err_and, inr, layout_of, Some, Tables, ◌∙◌, ◌≡◌}
+use Rattle.mb_store.proofs.FaultLemmas.{counted_then}
 use Rattle.mb_cache.proofs.OpenLemmas.{agrees_opened, begun_layout, begun_may, opened_as}
 use Rattle.mb_cache.proofs.OwnLemmas.{on_ok, own_begin}
 use Rattle.mb_cache.proofs.RoundLemmas.{on_err}
@@ -32,3 +33,6 @@ returns-clause-err g c t = on_err _ _ (inr (c.load_state.ensures.kept.told ∙ c
 
 pub returns-clause-own : goal.returns-clause-own
 returns-clause-own g c = c.load_state.ensures.own
+
+pub returns-clause-fault : goal.returns-clause-fault
+returns-clause-fault g c = counted_then _ _ _ _ _ _ c.in_ok-begin.ensures.fault.still c.load_state.ensures.fault

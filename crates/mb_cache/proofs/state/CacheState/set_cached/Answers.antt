@@ -1,4 +1,5 @@
 use Rattle.mb_cache.proofs.Common.{ap, Cell, cell_at, coord_in, Entry, entry_at, entry_of, List, old_entry, OnOk, option_map, place_at, ReplacesEntry, row_at, subst, sym, Tables, true, ◌∙◌, ◌≡◌}
+use Rattle.mb_store.proofs.FaultLemmas.{counted_then}
 use Rattle.mb_cache.proofs.PutLemmas.{found_entry, sets, sets_entry}
 use Rattle.mb_cache.proofs.state.CacheState.set_cached.Goals as goal
 
@@ -22,3 +23,6 @@ returns-clause-own g c =
     sets_entry (coord_in c.args.z c.args.x c.args.y) c.in-Some.coord c.args.meta c.in_ok-found.found c.entry_of_found-old.result c.args.self.now c.put.new.entries.keys c.put.result
     (sym c.coord_in.ensures ∙ c.in-Some.is) (c.entry_of_found-old.ensures ∙ ap (old_entry (place_at c.in-Some.coord)) c.as_ref.ensures.value)
     (subst (λ (es : List Entry). OnOk c.put.result (ReplacesEntry (place_at c.in-Some.coord) c.args.meta.expires c.entry_of_found-old.result es c.put.new.entries.keys)) c.self.view_is c.put.ensures.own)
+
+pub returns-clause-fault : goal.returns-clause-fault
+returns-clause-fault g c = counted_then _ _ _ _ _ _ c.in_ok-found.ensures.fault.still c.put.ensures.fault

@@ -1,4 +1,4 @@
-use Rattle.mb_copy.proofs.Common.{err_from_is_err_and, inl, refl}
+use Rattle.mb_copy.proofs.Common.{err_from_is_err_and, inl, inr, refl, still_anyway}
 use Rattle.mb_copy.proofs.AnswerLemmas.{all_copied, all_left, hash_refused, put_answered, source_refused}
 use Rattle.mb_copy.proofs.PutLemmas.{is_source}
 use Rattle.mb_copy.proofs.copier.MbtilesCopier.run.Goals as goal
@@ -37,3 +37,9 @@ returns-clause-copied g c told =
 pub returns-clause-left : goal.returns-clause-left
 returns-clause-left g c told =
     all_left c.args.self.now (g.S.TileStore.tells c.args.src.now) (g.S.TileStore.told c.args.src.now) (g.D.TileStore.told c.args.dst.now) (g.D.TileStore.told c.copy_into.new.dst) c.in_ok-source.source c.in_ok-source.ensures.answer c.in_ok-source.ensures.own c.copy_into.result (c.copy_into.ensures.left told)
+
+pub returns-clause-fault : goal.returns-clause-fault
+returns-clause-fault g c is = inr (c.copy_into.ensures.fault.rose is)
+
+pub returns-clause-source_still : goal.returns-clause-source_still
+returns-clause-source_still g c = still_anyway c.copy_into.result c.in_ok-source.ensures.fault.still

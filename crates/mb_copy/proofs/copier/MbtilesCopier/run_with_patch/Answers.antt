@@ -1,4 +1,4 @@
-use Rattle.mb_copy.proofs.Common.{err_from_is_err_and, inl, refl}
+use Rattle.mb_copy.proofs.Common.{err_from_is_err_and, inl, inr, refl, still_anyway}
 use Rattle.mb_copy.proofs.AnswerLemmas.{all_left}
 use Rattle.mb_copy.proofs.PatchAnswerLemmas.{patch_refused, patch_untaken, patched_answered, patched_copied, source_refused, source_untaken}
 use Rattle.mb_copy.proofs.PutLemmas.{is_source}
@@ -61,3 +61,12 @@ returns-clause-copied g c told =
 pub returns-clause-left : goal.returns-clause-left
 returns-clause-left g c told =
     all_left c.args.self.now (g.S.TileStore.tells c.args.src.now) (g.S.TileStore.told c.args.src.now) (g.D.TileStore.told c.args.dst.now) (g.D.TileStore.told c.copy_patched.new.dst) c.in_ok-source.source c.in_ok-source.ensures.answer c.in_ok-source.ensures.own c.copy_patched.result (c.copy_patched.ensures.left told)
+
+pub returns-clause-fault : goal.returns-clause-fault
+returns-clause-fault g c is = inr (inl (c.copy_patched.ensures.fault.rose is))
+
+pub returns-clause-source_still : goal.returns-clause-source_still
+returns-clause-source_still g c = still_anyway c.copy_patched.result c.in_ok-source.ensures.fault.still
+
+pub returns-clause-patch_still : goal.returns-clause-patch_still
+returns-clause-patch_still g c = still_anyway c.copy_patched.result c.in_ok-other.ensures.fault.still

@@ -78,7 +78,7 @@ try_from_cached_source_spec 𝓤 𝓛 𝓜 𝓡 wired Y Z L LZ gb db gc dc dd mb
     -- [the tokens; the backend; what `open_with` ensures; the result]
     by_result r
     (λ x is. rewrite ! 3 (λ (r' : Made.Denot). ‵ (Made.own_val r' (v ∷ []))) is refl $ rewrite ! 2 (λ (r' : Made.Denot). raw ((sc κs' a').ensures tt r' (at_exit sEn κs' a' ws))) is refl $ move ! (2 ∷ []) $
-    told ! (λ answer. told ! (λ why. told ! (λ opened. told ! (λ same. told ! (λ version. told ! (λ kept. heard ! _ (λ reads. move ! (2 ∷ []) $
+    told ! (λ answer. told ! (λ why. told ! (λ still. told ! (λ opened. told ! (λ same. told ! (λ version. told ! (λ kept. heard ! _ (λ reads. move ! (2 ∷ []) $
     ok_out Two PE (tuple_laws (CR ∷ WS ∷ []) (LC, (state.the_row_laws, tt))) ! x v (λ u ev whole-good. pair_out CR WS LC state.the_row_laws ! x u (λ p s' eu p-good s-good.
     let d : W.Denot = record { backend = mr; cache = x.0; state = x.1 } in let wv : Val = vstruct (of_list (mv ∷ p ∷ s' ∷ [])) in let rv : Val = live 0 (of_list (wv ∷ [])) in
     let both = as_fields (layout CR ∷ layout WS ∷ []) (p ∷ s' ∷ []) (p-good, (s-good, tt)) in
@@ -100,14 +100,14 @@ try_from_cached_source_spec 𝓤 𝓛 𝓜 𝓡 wired Y Z L LZ gb db gc dc dd mb
     (beside 𝓛 (rests_ok 𝓛 R m (λ (t : W.Denot). t.backend.ghost_name) PE.Denot (LeftByOpening {A = W.Denot} gb.told gb.versions gb.faults gb.reads gb.steady m.now (Ok d)) d refl)
     (holds 𝓛 tt (holds 𝓛 tt (holds 𝓛 (λ steady below same'. is_ok Two.Denot W.Denot 0 0 (Ok d) d (errors.Reading causes.Fault) refl same')
     (holds 𝓛 refl (holds 𝓛 (fits_cache Z.Denot (gb.told w) x.1 gc.held gc.idle ca x.0 same empty opened) (holds 𝓛 (opens_again (gb.told m.now) (gb.told w) x.1 kept.told opened)
-    (holds 𝓛 same (holds 𝓛 version (holds 𝓛 kept (fact_i 𝓤 _ (emp 𝓤) reads))))))))))) $
-    nothing ! $ nothing ! $ fjoin ! $ nothing ! $ fjoin ! $ nothing ! $ fjoin ! $ move ! (3 ∷ 0 ∷ 2 ∷ 1 ∷ []) $ by ! (leaves 𝓛 En hs c z rv (Ok d) (tt, (tt, (tt, tt))) (tt, (tt, (tt, tt))))))))))))))
+    (holds 𝓛 same (holds 𝓛 version (holds 𝓛 still (holds 𝓛 kept (fact_i 𝓤 _ (emp 𝓤) reads)))))))))))) $
+    nothing ! $ nothing ! $ fjoin ! $ nothing ! $ fjoin ! $ nothing ! $ fjoin ! $ move ! (3 ∷ 0 ∷ 2 ∷ 1 ∷ []) $ by ! (leaves 𝓛 En hs c z rv (Ok d) (tt, (tt, (tt, tt))) (tt, (tt, (tt, tt)))))))))))))))
     (λ error is. rewrite ! 3 (λ (r' : Made.Denot). ‵ (Made.own_val r' (v ∷ []))) is refl $ rewrite ! 2 (λ (r' : Made.Denot). raw ((sc κs' a').ensures tt r' (at_exit sEn κs' a' ws))) is refl $ move ! (2 ∷ []) $
-    told ! (λ answer. told ! (λ why. told ! (λ opened. told ! (λ same. told ! (λ version. told ! (λ kept. heard ! _ (λ reads. move ! (2 ∷ []) $
+    told ! (λ answer. told ! (λ why. told ! (λ still. told ! (λ opened. told ! (λ same. told ! (λ version. told ! (λ kept. heard ! _ (λ reads. move ! (2 ∷ []) $
     err_out Two PE error-laws.the_row_laws ! error v (λ u ev good.
     let rv : Val = live 1 (of_list (u ∷ [])) in let before : ℕ = gb.faults m.now in let now : ℕ = gb.faults w in
     let Leaves : Y.Denot → Type 0 = LeftByOpening {A = W.Denot} gb.told gb.versions gb.faults gb.reads gb.steady m.now (Err error) in
-    let left : Leaves w = record { causes = causes_again Two.Denot W.Denot before now error why; kept = kept; reads = reads } in
+    let left : Leaves w = record { causes = causes_again Two.Denot W.Denot before now error why; still = still; kept = kept; reads = reads } in
     lands_as ! ev refl (and_tt _ good.0, (record { fits = lit< tt }, (good.1, tt))) $
     first ! $ switches_on ! (get_tag ! (vrt ! refl (fld ! refl (stop !))) (whole !)) $ exec ! 𝓣.C 𝓣.Λ Ev (arm_body 1 (head (after 3 fn.body))) (then_runs 𝓛 𝓣.C 𝓣.Λ Ev (after 4 fn.body) (at_ret Ev Post)) $
     sets ! (of_opd ! (get_in ! (vrt ! refl (fld ! refl (stop !))) (in_variant ! 1 0 refl refl (whole !)))) refl good $ sets ! (of_opd ! (get ! refl)) refl good $
@@ -120,5 +120,5 @@ try_from_cached_source_spec 𝓤 𝓛 𝓜 𝓡 wired Y Z L LZ gb db gc dc dd mb
     use1 𝓛 (raw ((c κs a).ensures tt (Err error) (at_exit En κs a (tt, (tt, (tt, tt))))))
     (beside 𝓛 (rests_err 𝓛 R m (λ (t : W.Denot). t.backend.ghost_name) PE.Denot Leaves error w left) (holds 𝓛 answer (holds 𝓛 (failure Two.Denot W.Denot before now error why)
     (holds 𝓛 (λ steady below same'. no_fault Two.Denot W.Denot before now (Err error) error why below (kept.calm steady).1 refl same')
-    (holds 𝓛 tt (holds 𝓛 tt (holds 𝓛 tt (holds 𝓛 tt (holds 𝓛 tt (holds 𝓛 tt (fact_i 𝓤 _ (emp 𝓤) tt))))))))))) $
-    nothing ! $ nothing ! $ fjoin ! $ nothing ! $ fjoin ! $ nothing ! $ fjoin ! $ move ! (3 ∷ 0 ∷ 2 ∷ 1 ∷ []) $ by ! (leaves 𝓛 En hs c z rv (Err error) (tt, (tt, (tt, tt))) (tt, (tt, (tt, tt))))))))))))))))))))))
+    (holds 𝓛 tt (holds 𝓛 tt (holds 𝓛 tt (holds 𝓛 tt (holds 𝓛 tt (holds 𝓛 tt (holds 𝓛 tt (fact_i 𝓤 _ (emp 𝓤) tt)))))))))))) $
+    nothing ! $ nothing ! $ fjoin ! $ nothing ! $ fjoin ! $ nothing ! $ fjoin ! $ move ! (3 ∷ 0 ∷ 2 ∷ 1 ∷ []) $ by ! (leaves 𝓛 En hs c z rv (Err error) (tt, (tt, (tt, tt))) (tt, (tt, (tt, tt)))))))))))))))))))))))

@@ -29,6 +29,7 @@ loop-entry-preserved g c =
       budget = omega arith;
       reads = record { least = omega (arith, c.in_default-enter.ensures.reads.least, c.loop-entry.invariant.reads.least); later = omega arith; most = omega (arith, c.loop-entry.invariant.reads.most, c.enter.ensures.reads.most) };
       faults = omega (arith, c.enter.ensures.kept.faults, c.loop-entry.invariant.faults);
+      still = c.in_default-enter.ensures.still ∙ c.loop-entry.invariant.still;
       versions = c.enter.ensures.kept.versions ∙ c.loop-entry.invariant.versions;
       calm = λ z. let a = c.loop-entry.invariant.calm z in let b = c.enter.ensures.kept.calm a.0 in (b.0, b.1 ∙ a.1);
       fewer = omega (arith, ap length took.queue, c.enter.ensures.small, c.loop-entry.invariant.fewer);
