@@ -160,6 +160,9 @@ class File:
         self.base.text_factory = bytes
         for statement in statements:
             self.base.execute(statement)
+        self.list()
+
+    def list(self):
         listed = self.base.execute("SELECT type, name, sql FROM sqlite_master WHERE type IN ('table', 'view')").fetchall()
         self.kinds = {name.decode().lower(): kind for kind, name, _ in listed}
         self.texts = {name.decode().lower(): text.decode() for _, name, text in listed}
