@@ -117,7 +117,7 @@ class OfFile(File):
     def __init__(self, path):
         self.base = sqlite3.connect(path, isolation_level=None)
         self.base.text_factory = bytes
-        self.list()
+        self.read_catalog()
 
 
 def file_case(rows, folder, *statements, size=512):
