@@ -42,8 +42,10 @@ has_found ns n (Err i) absent = sym (list_any_none (nat_eq n) ns (All-from_get_o
   where
     below : (a b : ℕ) → b < a → nat_eq a b ≡ false
     below a b l = grind (arith, nat_tests)
+
     above : (a b : ℕ) → a < b → nat_eq a b ≡ false
     above a b l = grind (arith, nat_tests)
+
     split : (k : ℕ) → k < length ns → (b : Bool) → nat_lt k i ≡ b → nat_eq n (get_or ns k 0) ≡ false
     split k fits true is = below n (get_or ns k 0) (absent.1 k (grind (arith, nat_tests)))
     split k fits false is = above n (get_or ns k 0) (absent.2 k (grind (arith, nat_tests)) fits)
