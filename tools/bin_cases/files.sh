@@ -23,6 +23,32 @@ made 'places and contents by numbers' 3 2 "$names; create table tiles_shallow (z
     create view tiles as select zoom_level, tile_column, tile_row, tile_data from tiles_shallow join tiles_data on tiles_shallow.tile_data_id = tiles_data.tile_data_id;
     insert into tiles_data values (1, x'01'), (7, x'02'); insert into tiles_shallow values (0, 0, 0, 1), (1, 1, 0, 7), (1, 0, 1, 7)"
 
+# Tables WITHOUT ROWID whose key is the place, as Planetiler makes them: of several levels, and with contents over
+# several pages. They are read without sqlite3.
+keyed() {
+    fresh "$1"
+    "$real" a.mbtiles "$4" >/dev/null
+    echo 'echo "sqlite3 is run" >&2; exit 1' | instead sqlite3
+    run env PATH="$t/path:$PATH" "$convert" a.mbtiles made.pmtiles
+    rm -r "$t/path"
+    whole "$2" "$3"
+    ends
+}
+keys='primary key (zoom_level, tile_column, tile_row)) without rowid'
+for size in 512 1024 4096 65536; do
+    keyed "tiles without rowid in pages of $size bytes" 400 400 "pragma page_size = $size; $names; create table tiles ($columns, $keys;
+        with recursive n(v) as (values (0) union all select v + 1 from n where v < 399) insert into tiles select 6, v % 64, v / 64, randomblob(20 + v * v / 4) from n"
+    keyed "places without rowid in pages of $size bytes" 4000 7 "pragma page_size = $size; create table metadata (name text, value text); create unique index name on metadata (name);
+        create table tiles_shallow (zoom_level integer, tile_column integer, tile_row integer, tile_data_id integer, $keys; create table tiles_data (tile_data_id integer primary key, tile_data blob);
+        create view tiles as select tiles_shallow.zoom_level as zoom_level, tiles_shallow.tile_column as tile_column, tiles_shallow.tile_row as tile_row, tiles_data.tile_data as tile_data
+            from tiles_shallow join tiles_data on tiles_shallow.tile_data_id = tiles_data.tile_data_id;
+        with recursive n(v) as (values (0) union all select v + 1 from n where v < 6) insert into tiles_data select v, randomblob(10 + 300 * v) from n;
+        with recursive n(v) as (values (0) union all select v + 1 from n where v < 3999) insert into tiles_shallow select 7, v % 128, v / 128, v % 7 from n"
+done
+keyed 'metadata without rowid, rows that were deleted' 200 200 "pragma page_size = 512; create table metadata (name text primary key, value text) without rowid; insert into metadata values ('name', 'kept');
+    create table tiles (tile_data blob, tile_row integer, note text, tile_column integer, zoom_level integer, $keys;
+    with recursive n(v) as (values (0) union all select v + 1 from n where v < 399) insert into tiles select randomblob(200 + v), v / 64, 'n', v % 64, 6 from n; delete from tiles where tile_column % 2 = 1"
+
 # How a table may lie in a file. taken NAME SQL: a form that the program may not read by itself, and the command has
 # rewritten then; a script takes it too
 taken() {

@@ -26,6 +26,8 @@ shallow="create table tiles_shallow (zoom_level integer, tile_column integer, ti
     insert into tiles_data values (1, x'01'), (2, x'02'); insert into tiles_shallow values (0, 0, 0, 1), (1, 1, 0, 2), (1, 0, 1, 2)"
 read_all_the_same 'tiles without rowid' "$names; create table tiles ($columns, primary key (zoom_level, tile_column, tile_row)) without rowid; $three"
 read_all_the_same 'places without rowid' "$names; $shallow"
+read_all_the_same 'tiles without rowid in another order' "$names; create table tiles ($columns, primary key (tile_row, tile_column, zoom_level)) without rowid; $three"
+read_all_the_same 'tiles without rowid, a key that falls' "$names; create table tiles ($columns, primary key (zoom_level desc, tile_column, tile_row)) without rowid; $three"
 read_all_the_same 'metadata without rowid' "create table metadata (name text primary key, value text) without rowid; insert into metadata values ('format', 'png'), ('name', 'a set');
     create table tiles ($columns); $three"
 for vacuum in 1 2; do
@@ -114,7 +116,7 @@ holds nothing_left
 ends
 
 fresh 'sets of such forms that can not be read'
-"$real" a.mbtiles "$names; create table tiles ($columns, primary key (zoom_level, tile_column, tile_row)) without rowid; $three"
+"$real" a.mbtiles "$names; create table tiles ($columns, primary key (tile_row, tile_column, zoom_level)) without rowid; $three"
 (echo 'begin exclusive; update tiles set tile_data = zeroblob(900000);'; sleep 12) | "$real" a.mbtiles &
 sleep 2
 run "$convert" a.mbtiles made.pmtiles

@@ -61,11 +61,14 @@ tables_of() {
     esac
 }
 
-# equal FILE WORDS..: each tile is that of SQLite
+# equal FILE WORDS..: each tile is that of SQLite, which has no part in it but by --by-script
 equal() {
     file=$1
     shift
+    before=$PATH
+    [ $# -gt 0 ] || { echo 'echo "sqlite3 is run" >&2; exit 1' | instead sqlite3; PATH=$t/path:$PATH; }
     run "$convert" --overwrite "$@" "$file" made.pmtiles
+    PATH=$before
     # ids of 16 or 32 digits that are no digests are refused, in words that name the way that takes them
     if [ "$maker $*" = 'a tool whose ids look like digests ' ]; then
         status 1

@@ -160,9 +160,12 @@ class File:
         self.base.text_factory = bytes
         for statement in statements:
             self.base.execute(statement)
+        self.read_catalog()
+
+    def read_catalog(self):
         listed = self.base.execute("SELECT type, name, sql FROM sqlite_master WHERE type IN ('table', 'view')").fetchall()
-        self.kinds = {name.decode().lower(): kind for kind, name, _ in listed}
-        self.texts = {name.decode().lower(): text.decode() for _, name, text in listed}
+        self.kinds = {name.decode(errors='replace').lower(): kind for kind, name, _ in listed}
+        self.texts = {name.decode(errors='replace').lower(): text.decode(errors='replace') for _, name, text in listed}
 
     def has(self, table):
         return self.kinds.get(table) == b'table'

@@ -2,6 +2,7 @@
 //! answer: calls of mb_file.
 #![tactic(auto)]
 
+mod bytes;
 mod paged;
 
 use rows_shared::{Rows, Words, run};
@@ -16,6 +17,8 @@ impl Rows for Lines {
         let mut words: Words = line.split_whitespace();
         match words.next()? {
             "paged" => paged::answer(rt.alloc(), out, &mut words),
+            "file" => bytes::answer(rt.alloc(), out, &mut words),
+            "changed" => bytes::changed(rt.alloc(), out, &mut words),
             _ => None,
         }
     }

@@ -22,6 +22,9 @@ fn files_of(alloc: Global, words: &mut Words) -> Option<Files<Memory>> {
     connection.close_files().ok()
 }
 
+/// What is said of a set whose rows can't be read.
+pub const FAULT: &str = "fault ";
+
 // The key of a row of tiles.
 fn key_of(row: &Row) -> Option<RowKey> {
     match row.cells() {
@@ -48,13 +51,13 @@ fn found(alloc: Global, set: &mut FileSet<Memory>, table: TableName) -> Option<u
     Some(count)
 }
 
-// Appends the rows of a set, how many are found, and the counts of those that are left out; why
-// there is none at a fault.
-fn say_set(alloc: Global, out: &mut String, set: FileSet<Memory>) -> Option<()> {
+/// Appends the rows of a set, how many are found, and the counts of those that are left out; a word
+/// at a fault.
+pub fn say_set(alloc: Global, out: &mut String, set: FileSet<Memory>) -> Option<()> {
     let mut set = set;
     let table = set.layout().tile_table();
     let Some(count) = found(alloc, &mut set, table) else {
-        return write!(out, "fault ").ok();
+        return write!(out, "{FAULT}").ok();
     };
     say_all(alloc, out, &mut set)?;
     let left = set.left_out();
@@ -75,12 +78,13 @@ fn word_of(error: FileError) -> &'static str {
         FileError::View => "View",
         FileError::Table { .. } => "Table",
         FileError::Column { .. } => "Column",
+        FileError::Damaged => "Damaged",
         _ => "Other",
     }
 }
 
-pub fn answer(alloc: Global, out: &mut String, words: &mut Words) -> Option<()> {
-    let files = files_of(alloc, words)?;
+/// Appends what a set of files is read as, or the word of its refusal.
+pub fn say_files(alloc: Global, out: &mut String, files: Files<Memory>) -> Option<()> {
     match FileSet::open(alloc, files, 8) {
         Ok(set) => say_set(alloc, out, set),
         Err(error) => {
@@ -88,4 +92,9 @@ pub fn answer(alloc: Global, out: &mut String, words: &mut Words) -> Option<()> 
             write!(out, "{word} ").ok()
         }
     }
+}
+
+pub fn answer(alloc: Global, out: &mut String, words: &mut Words) -> Option<()> {
+    let files = files_of(alloc, words)?;
+    say_files(alloc, out, files)
 }

@@ -1,6 +1,7 @@
 // The test that pages are a sound tree of a table: a scan of such a tree leaves no row out.
 ghost use Rattle.std.specs.Prelude.{◌↔◌, IsTrue};
 
+use crate::key_order::KeyOrder;
 use crate::source::Source;
 use sqlite_btree::{PayloadTest, check};
 use sqlite_disk::Disk;
@@ -32,6 +33,26 @@ pub(crate) fn test_tree<D: Disk>(
         alloc,
         source.taken.as_mut_slice(),
         root,
+        &IsRecord,
+    )
+}
+
+// The same of a table of a set, whose key has so many columns where it is WITHOUT ROWID.
+pub(crate) fn test_table<D: Disk>(
+    alloc: Global,
+    source: &mut Source<D>,
+    root: u32,
+    key: Option<usize>,
+) -> Result<(), Error> {
+    let Some(columns) = key else {
+        return test_tree(alloc, source, root);
+    };
+    check::index(
+        &mut source.pages,
+        alloc,
+        source.taken.as_mut_slice(),
+        root,
+        &KeyOrder { columns },
         &IsRecord,
     )
 }

@@ -2,6 +2,7 @@
 ghost use Rattle.std.specs.Prelude.{◌≡◌};
 
 use crate::FileError;
+use crate::keyed::{before_without_rowid, key_of, place_in_record};
 use mb_tables::TableName;
 use sqlite_resolve::{CompileError, define_table};
 use sqlite_schema::code::{lend_value, own_value};
@@ -15,7 +16,7 @@ use std::alloc::Global;
 pub(crate) struct Column {
     // Its place in the records.
     pub(crate) at: usize,
-    // Whether it is the rowid, which records have as NULL.
+    // Whether it is the rowid, which records have as NULL. A table WITHOUT ROWID has none.
     pub(crate) is_key: bool,
     // Whether whole numbers in it are floating point numbers.
     pub(crate) is_real: bool,
@@ -26,11 +27,21 @@ pub(crate) struct Column {
 // The columns of a set's table.
 #[derive(Drop)]
 pub(crate) struct Columns {
+    // How many columns the key of a table WITHOUT ROWID has, which come first in its records. None of another table.
+    pub(crate) key: Option<usize>,
     pub(crate) first: Column,
     pub(crate) second: Column,
     pub(crate) third: Option<Column>,
     pub(crate) fourth: Option<Column>,
     pub(crate) fifth: Option<Column>,
+}
+
+// A table by the text that makes it.
+#[derive(Drop)]
+struct Made {
+    table: schema::Table,
+    // The columns of its key, None where it has rowids.
+    key: Option<Vec<usize>>,
 }
 
 // The names of the columns of a table, in the order of its set.
@@ -64,17 +75,22 @@ fn position(made: &schema::Table, name: &str) -> Option<usize> {
 }
 
 // A column by its name, None where the table has none.
-fn column_of(alloc: Global, made: &schema::Table, name: &str) -> Result<Option<Column>, FileError> {
-    let Some(at) = position(made, name) else {
+fn column_of(alloc: Global, made: &Made, name: &str) -> Result<Option<Column>, FileError> {
+    let table = &made.table;
+    let Some(number) = position(table, name) else {
         return Ok(None);
     };
-    let Some(found) = made.columns.get(at) else {
+    let Some(found) = table.columns.get(number) else {
         return Ok(None);
+    };
+    let (at, is_key) = match &made.key {
+        Some(key) => (place_in_record(key.as_slice(), number), false),
+        None => (number, table.key == Some(number)),
     };
     let default = own_value(alloc, lend_value(&found.default))?;
     Ok(Some(Column {
         at,
-        is_key: made.key == Some(at),
+        is_key,
         is_real: found.kind == Kind::Real,
         default,
     }))
@@ -83,7 +99,7 @@ fn column_of(alloc: Global, made: &schema::Table, name: &str) -> Result<Option<C
 // A column of a table by its number in the set, None where the set has fewer.
 fn numbered(
     alloc: Global,
-    made: &schema::Table,
+    made: &Made,
     table: TableName,
     number: usize,
 ) -> Result<Option<Column>, FileError> {
@@ -96,14 +112,45 @@ fn numbered(
     }
 }
 
-// The table that a text makes.
-fn made_by(alloc: Global, table: TableName, text: &[u8]) -> Result<schema::Table, FileError> {
+// The table that a text makes, None where the kit doesn't understand it.
+fn defined(alloc: Global, text: &[u8]) -> Result<Option<schema::Table>, FileError> {
     match define_table(alloc, text) {
-        Ok(made) => Ok(made),
+        Ok(made) => Ok(Some(made)),
         Err(CompileError::OutOfMemory | CompileError::Parse(ParseError::OutOfMemory)) => {
             Err(FileError::OutOfMemory)
         }
-        Err(_) => Err(FileError::Table { table }),
+        Err(_) => Ok(None),
+    }
+}
+
+// The table WITHOUT ROWID that a text makes, None where it or its key isn't understood.
+fn keyed(alloc: Global, table: TableName, text: &[u8]) -> Result<Option<Made>, FileError> {
+    let Some(text) = before_without_rowid(text) else {
+        return Ok(None);
+    };
+    let Some(made) = defined(alloc, text)? else {
+        return Ok(None);
+    };
+    match key_of(alloc, table, &made, names(table), text)? {
+        Some(key) => Ok(Some(Made {
+            table: made,
+            key: Some(key),
+        })),
+        None => Ok(None),
+    }
+}
+
+// The table that a text makes.
+fn made_by(alloc: Global, table: TableName, text: &[u8]) -> Result<Made, FileError> {
+    if let Some(made) = defined(alloc, text)? {
+        return Ok(Made {
+            table: made,
+            key: None,
+        });
+    }
+    match keyed(alloc, table, text)? {
+        Some(made) => Ok(made),
+        None => Err(FileError::Table { table }),
     }
 }
 
@@ -114,6 +161,7 @@ pub(crate) fn columns_by(
     text: &[u8],
 ) -> Result<Columns, FileError> {
     let made = made_by(alloc, table, text)?;
+    let key = made.key.as_ref().map(|key| key.len());
     let Some(first) = numbered(alloc, &made, table, 0)? else {
         return Err(FileError::Column { table });
     };
@@ -121,6 +169,7 @@ pub(crate) fn columns_by(
         return Err(FileError::Column { table });
     };
     Ok(Columns {
+        key,
         first,
         second,
         third: numbered(alloc, &made, table, 2)?,

@@ -25,7 +25,8 @@ pub enum FileError {
     /// `tiles` is a view that isn't one of the known forms over the tables of a layout.
     #[error("its view tiles is of no known form; copy the view by sqlite3 into a plain table")]
     View,
-    /// The table is a view, or the statement that makes it isn't understood, as with WITHOUT ROWID.
+    /// The table is a view, or the statement that makes it isn't understood, as with WITHOUT ROWID and a key that isn't
+    /// the place, the id or the name.
     #[error("the table {table} is of a form that isn't read here; copy it by sqlite3 into a plain table")]
     Table {
         /// The table.

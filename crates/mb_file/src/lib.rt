@@ -4,11 +4,15 @@
 mod catalog;
 mod checking;
 mod columns;
+mod course;
 mod cursor;
 mod error;
 mod fault;
 mod file;
 mod header;
+mod index_cell;
+mod key_order;
+mod keyed;
 mod listing;
 mod metadata;
 mod numbers;
@@ -19,6 +23,7 @@ mod scan;
 mod set_table;
 mod source;
 mod store;
+mod walk;
 
 pub use error::FileError;
 pub use fault::FileFault;

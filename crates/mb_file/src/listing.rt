@@ -1,4 +1,4 @@
-// A table of a set: its rows in the order of their rowids, and by their keys.
+// A table of a set: its rows in the order of its tree, and by their keys.
 ghost use Rattle.std.specs.Prelude.{◌≡◌, ◌≤◌, true, All, IfOk, IfSome, length};
 ghost use Rattle.mb_tables.specs.Key.{has_key};
 ghost use Rattle.mb_tables.specs.Table.{width};
@@ -25,8 +25,8 @@ impl Listing {
     pub(crate) fn new(alloc: Global, table: TableName, of: SetTable) -> Listing {
         Listing {
             table,
+            scan: Scan::new(alloc, of.is_keyed()),
             of,
-            scan: Scan::new(alloc),
             is_sorted: false,
         }
     }
@@ -92,7 +92,7 @@ impl Listing {
             if item.number != number {
                 return Ok(None);
             }
-            let row = self.of.row_at(alloc, source, table, item.rowid)?;
+            let row = self.of.row_at(alloc, source, table, item.place)?;
             if key.is_of(table, row.cells()) {
                 return Ok(Some(row));
             }

@@ -5,9 +5,9 @@ ghost use Rattle.mb_tables.specs.Described.{is_table};
 
 use crate::FileError;
 use crate::catalog::Listed;
-use crate::checking::test_tree;
+use crate::checking::test_table;
 use crate::columns::{Columns, columns_by};
-use crate::cursor::Cursor;
+use crate::course::Course;
 use crate::record::{answer_of, spelled};
 use crate::source::Source;
 use mb_reading::{Answer, Step, row_of};
@@ -80,19 +80,19 @@ fn fill<D: Disk>(
     alloc: Global,
     source: &mut Source<D>,
     names: &mut MemStore,
-    listed: &Listed,
+    root: u32,
+    columns: &Columns,
 ) -> Result<(), FileError>
     requires described { is_table (told_of names.old).descriptions TableName.Metadata ≡ true }
     ensures described { is_table (told_of names.new).descriptions TableName.Metadata ≡ true }
 {
     let table = TableName::Metadata;
-    let columns = columns_by(alloc, table, listed.text.as_slice())?;
-    let mut cursor = Cursor::new(alloc);
+    let mut course = Course::new(alloc, columns.key.is_some());
     'rows: for _ in 0..u64::MAX {
-        if !cursor.advance(&mut source.pages, &mut source.scratch, listed.root)? {
+        if !course.advance(&mut source.pages, &mut source.scratch, root)? {
             return Ok(());
         }
-        let values = values_of(alloc, &columns, cursor.rowid(), cursor.record())?;
+        let values = values_of(alloc, columns, course.number(), course.record())?;
         let step = add(alloc, names, &values)?;
         source.left_out = source.left_out.counted(table, NOTHING, step);
     }
@@ -110,8 +110,9 @@ pub(crate) fn metadata<D: Disk>(
         return Err(FileError::OutOfMemory);
     };
     if let Some(listed) = listed {
-        test_tree(alloc, source, listed.root)?;
-        fill(alloc, source, &mut names, listed)?;
+        let columns = columns_by(alloc, TableName::Metadata, listed.text.as_slice())?;
+        test_table(alloc, source, listed.root, columns.key)?;
+        fill(alloc, source, &mut names, listed.root, &columns)?;
     }
     Ok(names)
 }

@@ -9,7 +9,8 @@ use sqlite_disk::digest_of;
 pub(crate) struct Numbered {
     // The number of its key.
     pub(crate) number: u64,
-    pub(crate) rowid: i64,
+    // Where it is read again: its rowid, or the place of its cell.
+    pub(crate) place: i64,
 }
 
 // The number of a place of zoom 0 to 30, its column and row below two to the zoom; None of another one. No

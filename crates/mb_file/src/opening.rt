@@ -1,7 +1,7 @@
 // The parts of a set: its layout, its tables and its metadata, by the catalog.
 use crate::FileError;
 use crate::catalog::{Catalog, ROOT, read_catalog};
-use crate::checking::test_tree;
+use crate::checking::{test_table, test_tree};
 use crate::columns::columns_by;
 use crate::listing::Listing;
 use crate::metadata::metadata;
@@ -29,7 +29,7 @@ fn listing<D: Disk>(
     };
     let columns = columns_by(alloc, table, listed.text.as_slice())?;
     let root = listed.root;
-    test_tree(alloc, source, root)?;
+    test_table(alloc, source, root, columns.key)?;
     Ok(Listing::new(alloc, table, SetTable { root, columns }))
 }
 

@@ -1,9 +1,9 @@
-// The rows of a table in the order of their rowids, numbered on the way.
+// The rows of a table in the order of its tree, numbered on the way.
 ghost use Rattle.std.specs.Prelude.{◌≡◌, ◌≤◌, All, IfOk, IfSome, length};
 ghost use Rattle.mb_tables.specs.Table.{width};
 
 use crate::FileFault;
-use crate::cursor::Cursor;
+use crate::course::Course;
 use crate::numbers::{Numbered, number_of_row};
 use crate::set_table::{SetTable, taken};
 use crate::source::Source;
@@ -15,24 +15,24 @@ use std::alloc::Global;
 
 #[derive(Drop)]
 pub(crate) struct Scan {
-    cursor: Cursor,
-    // How many rows of the set lie before the cursor.
+    course: Course,
+    // How many rows of the set lie before it.
     position: u64,
-    // The least rowid that no row had so far, None once all rows were read.
+    // The least number that no row had so far, None once all rows were read.
     unseen: Option<i64>,
     // Whether a row was read, of the set or not.
     any: bool,
     // How many rows of the set were read so far, and the bytes of their cells.
     pub(crate) count: u64,
     pub(crate) size: u64,
-    // These rows by their keys, in the order of their rowids.
+    // These rows by their keys, in the order of the table.
     pub(crate) numbered: Vec<Numbered>,
 }
 
 impl Scan {
-    pub(crate) fn new(alloc: Global) -> Scan {
+    pub(crate) fn new(alloc: Global, is_keyed: bool) -> Scan {
         Scan {
-            cursor: Cursor::new(alloc),
+            course: Course::new(alloc, is_keyed),
             position: 0,
             unseen: Some(i64::MIN),
             any: false,
@@ -44,14 +44,16 @@ impl Scan {
 
     // Goes before the first row again.
     fn restart(&mut self, alloc: Global) {
-        self.cursor = Cursor::new(alloc);
+        let course = self.course.anew(alloc);
+        self.course = course;
         self.position = 0;
     }
 
     // Notes a row that was never read before.
-    fn note(&mut self, secret: u64, row: &Row, rowid: i64) -> Result<(), FileFault> {
+    fn note(&mut self, secret: u64, row: &Row) -> Result<(), FileFault> {
         if let Some(number) = number_of_row(secret, row) {
-            self.numbered.push(Numbered { number, rowid })?;
+            let place = self.course.place();
+            self.numbered.push(Numbered { number, place })?;
         }
         self.count = self.count.saturating_add(1);
         self.size = size_with_cells(self.size, row.cells());
@@ -59,14 +61,14 @@ impl Scan {
     }
 
     // Whether a row was never read before.
-    fn is_new(&self, rowid: i64) -> bool {
+    fn is_new(&self, number: i64) -> bool {
         match self.unseen {
-            Some(unseen) => rowid >= unseen,
+            Some(unseen) => number >= unseen,
             None => false,
         }
     }
 
-    // Takes the row that the cursor stands at. None where the set has no such row.
+    // Takes the row that was read last. None where the set has no such row.
     fn take<D: Disk>(
         &mut self,
         alloc: Global,
@@ -77,17 +79,17 @@ impl Scan {
         ensures wide { IfOk result (λ row. IfSome row (λ row. length row ≡ width table)) }
     {
         self.any = true;
-        let rowid = self.cursor.rowid();
-        let is_new = self.is_new(rowid);
-        let answer = of.answer(rowid, self.cursor.record());
+        let number = self.course.number();
+        let is_new = self.is_new(number);
+        let answer = of.answer(number, self.course.record());
         let (row, step) = taken(alloc, table, answer)?;
         if is_new {
             let left_out = source.left_out.counted(table, answer, step);
             if step == Step::Added {
-                self.note(source.secret, &row, rowid)?;
+                self.note(source.secret, &row)?;
             }
             source.left_out = left_out;
-            self.unseen = rowid.checked_add(1);
+            self.unseen = number.checked_add(1);
         }
         if step != Step::Added {
             return Ok(None);
@@ -117,7 +119,7 @@ impl Scan {
     {
         for _ in 0..u64::MAX {
             if !self
-                .cursor
+                .course
                 .advance(&mut source.pages, &mut source.scratch, of.root)?
             {
                 self.end(table)?;

@@ -4,6 +4,7 @@ ghost use Rattle.mb_tables.specs.Table.{width};
 
 use crate::FileFault;
 use crate::columns::Columns;
+use crate::index_cell::record_at;
 use crate::record::answer_of;
 use crate::source::Source;
 use mb_reading::{Answer, Step, is_placed, kind_of, misplaced, row_of};
@@ -42,21 +43,22 @@ pub(crate) fn taken(
 }
 
 impl SetTable {
+    // Whether it is WITHOUT ROWID.
+    pub(crate) fn is_keyed(&self) -> bool {
+        self.columns.key.is_some()
+    }
+
     // The values of a record in the columns of the set.
     pub(crate) fn answer<'a>(&'a self, rowid: i64, record: &'a [u8]) -> Answer<'a> {
         answer_of(&self.columns, rowid, record)
     }
 
-    // The row with a rowid.
-    pub(crate) fn row_at<D: Disk>(
+    // Reads the record of a row by its rowid.
+    fn record_by_rowid<D: Disk>(
         &self,
-        alloc: Global,
         source: &mut Source<D>,
-        table: TableName,
         rowid: i64,
-    ) -> Result<Row, FileFault>
-        ensures wide { IfOk result (λ row. length row ≡ width table) }
-    {
+    ) -> Result<(), FileFault> {
         let is_there = table::get(
             &mut source.pages,
             &mut source.scratch,
@@ -64,10 +66,29 @@ impl SetTable {
             rowid,
             &mut source.record,
         )?;
-        if !is_there {
-            return Err(FileFault::Damaged);
+        if is_there {
+            Ok(())
+        } else {
+            Err(FileFault::Damaged)
         }
-        let answer = answer_of(&self.columns, rowid, source.record.as_slice());
+    }
+
+    // The row at a place: with a rowid, or in a cell.
+    pub(crate) fn row_at<D: Disk>(
+        &self,
+        alloc: Global,
+        source: &mut Source<D>,
+        table: TableName,
+        place: i64,
+    ) -> Result<Row, FileFault>
+        ensures wide { IfOk result (λ row. length row ≡ width table) }
+    {
+        if self.is_keyed() {
+            record_at(&mut source.pages, place, &mut source.record)?;
+        } else {
+            self.record_by_rowid(source, place)?;
+        }
+        let answer = answer_of(&self.columns, place, source.record.as_slice());
         let (row, _) = taken(alloc, table, answer)?;
         Ok(row)
     }

@@ -19,9 +19,10 @@ use std::alloc::Global;
 
 /// A tile set that is read from the pages of a database and its log. It tells no tables.
 ///
-/// Its rows are those of the tables of its layout, in the order of their rowids; those of tiles that have no place of
-/// zoom 0 to 30 are left out and counted. Of its tables nothing is held in memory but 16 bytes a row, once it was read:
-/// the number of its key, and its rowid. The metadata is held.
+/// Its rows are those of the tables of its layout, in the order of their rowids, or of their key where a table is
+/// WITHOUT ROWID; those of tiles that have no place of zoom 0 to 30 are left out and counted. Of its tables nothing is
+/// held in memory but 16 bytes a row, once it was read: the number of its key, and its rowid or the place of its cell.
+/// The metadata is held.
 #[derive(Drop)]
 pub struct FileSet<D: Disk> {
     alloc: Global,
@@ -210,7 +211,7 @@ impl<D: Disk> TileStore for FileSet<D> {
         self.faults.counted(answer)
     }
 
-    /// The rows in the order of their rowids. Pages in order take time in their own rows; another page passes
+    /// The rows in the order of their table's tree. Pages in order take time in their own rows; another page passes
     /// over all rows before it.
     fn rows(
         &mut self,
@@ -223,8 +224,8 @@ impl<D: Disk> TileStore for FileSet<D> {
         self.faults.counted(answer)
     }
 
-    /// The first row of a table with a key, in the order of rowids. The first call reads each row that wasn't read yet;
-    /// each further one reads one row.
+    /// The first row of a table with a key, in the order of rowids, or of the file where it is WITHOUT ROWID. The first
+    /// call reads each row that wasn't read yet; each further one reads one row.
     fn find(
         &mut self,
         alloc: Global,

@@ -1,5 +1,5 @@
 -- What the entries of a set's names say, and names that are copied.
-use Rattle.set_options.proofs.Common.{All, All-cons, All-nil, and_parts, ap, AreNamesInOrder, arith, Bool, Cell, drop, drop_all, entries, entries_by, entries_sorted, from_entries, from_last, get-entries, get-from_entries, get_or, get_or_from_slice_get, Held, IfSome, is_lt, is_name_gone, is_sorted, IsName, IsPermutation-refl, length, List, live_at, map, map-append, name_of, name_value, Names, names_held, nat_cmp, nat_list_cmp_total, None, none-some, Option, option_and_then, Ordering, refl, same_map, slice_cmp, slice_get, slice_get-get_or, Some, stored_name, StoredName, suc, sym, T, take, take_more, text_at, text_cell, text_of, true, zero, ℕ, [], ◌++◌, ◌+◌, ◌-◌, ◌<◌, ◌∙◌, ◌∷◌, ◌≡◌, ◌≤◌}
+use Rattle.set_options.proofs.Common.{All, All-cons, All-nil, and_parts, ap, AreNamesInOrder, arith, Bool, Cell, drop, drop_all, entries, entries_by, entries_sorted, false, from_entries, from_last, get-entries, get-from_entries, get_or, get_or_from_slice_get, Held, IfSome, is_lt, is_name_gone, is_sorted, IsName, IsPermutation-refl, length, List, live_at, map, map-append, name_of, name_value, Names, names_held, nat_cmp, nat_list_cmp_total, None, none-some, Option, option_and_then, Ordering, refl, same_map, slice_cmp, slice_get, slice_get-get_or, Some, stored_name, StoredName, subst, suc, sym, T, take, take_more, text_at, text_cell, text_of, true, zero, ℕ, [], ◌++◌, ◌+◌, ◌-◌, ◌<◌, ◌∙◌, ◌∷◌, ◌≡◌, ◌≤◌}
 use Rattle.mb_lists.proofs.NameLemmas.{names_antisymmetric}
 use Rattle.mb_lists.proofs.Sorting.{sorted_in_order}
 use Rattle.mb_tables.specs.CellKinds.{is_text}
@@ -78,7 +78,10 @@ rises : (es : Pairs) → is_sorted R es ≡ true → (k : ℕ) (d : StoredName) 
 rises [] s k d far = absurd (omega (arith, far))
 rises (e ∷ []) s k d far = absurd (omega (arith, far))
 rises (e ∷ (f ∷ es)) s zero d far = sym (and_parts (is_lt (R e.0 f.0)) _ (and_parts _ _ s).0).0
-rises (e ∷ (f ∷ es)) s (suc k) d far = rises (f ∷ es) (and_parts _ (is_sorted R (f ∷ es)) s).1 k d (omega (arith, far))
+rises (e ∷ (f ∷ es)) s (suc k) d far =
+    let next : suc (k + 1) ≡ suc k + 1 = omega arith in
+    subst (λ n. true ≡ is_lt (R (name_of (get_or (map stored_name (f ∷ es)) k d)) (name_of (get_or (map stored_name (e ∷ (f ∷ es))) n d)))) next
+    (rises (f ∷ es) (and_parts _ (is_sorted R (f ∷ es)) s).1 k d (omega (arith, far)))
 
 pub copied_in_order : (m : Names) → AreNamesInOrder (length (map stored_name (entries m))) (map stored_name (entries m))
 copied_in_order m =

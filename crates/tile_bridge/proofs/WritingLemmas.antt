@@ -2,6 +2,7 @@
 use Rattle.tile_bridge.proofs.Common.{Add, add_to, AddFits, adds_distinct, All, ap, arith, Bool, bytes_at, CanBeWritten, Err, false, few_took, filled_took, get_or, get_or-map, IfOk, IsErrAnd, length}
 use Rattle.tile_bridge.proofs.Common.{length-map, List, low_took, Ok, Option, Options, places_of, PmtError, refl, Result, shown, sorted_took, subst, sym, take, TileSet, Took, took_fits_at, TookAll}
 use Rattle.tile_bridge.proofs.Common.{WriteCauses, ℕ, [], ◌+◌, ◌<◌, ◌∙◌, ◌≡◌, ◌≢◌, ◌≤◌}
+use Rattle.pm_format.specs.Faults.{FaultsStand}
 use Rattle.pm_format.specs.declared.compression.Compression.TheVariants as compression
 use Rattle.pm_format.specs.declared.error.PmtError.TheVariants as errors
 use Rattle.pm_format.specs.declared.error.ReadCause.TheVariants as causes
@@ -9,6 +10,7 @@ use Rattle.pm_writer.proofs.InTurn.{added_at}
 use Rattle.pm_writer.proofs.Few.{archive_fits}
 use Rattle.pm_writer.specs.Causes.{AddCauses, FinishCauses}
 use Rattle.pm_writer.specs.declared.places.ArchivePlaces.{ArchivePlaces}
+use Rattle.std.proofs.Common.{OnOk}
 
 -- the add of a number, as it is seen
 shown_at : (tiles : TileSet) (adds : List Add) (i : ℕ) (a : Add) → i < length adds → a ≡ get_or adds i a → get_or (shown tiles adds) i (a.id, bytes_at tiles a.index) ≡ (a.id, bytes_at tiles a.index)
@@ -70,3 +72,8 @@ finish_refused o adds start before now failed (Err _) alive can order c = absurd
 pub placed : (told : Option (List ℕ)) (o : Options) (gs ts : List (ℕ × List ℕ)) (r : Result ArchivePlaces PmtError) → TookAll told gs ts → IfOk r (λ p. p ≡ places_of o ts) → IfOk r (λ p. (taken : List (ℕ × List ℕ)) × TookAll told gs taken × (p ≡ places_of o taken))
 placed told o gs ts (Ok p) all is = (ts, all, is)
 placed told o gs ts (Err e) all is = tt
+
+-- the count of faults after a call behind others, where it succeeds
+pub at_ok : {A : Type 0} (before mid now : ℕ) (r : Result A PmtError) → mid ≡ before → FaultsStand mid now r → OnOk r (now ≡ before)
+at_ok before mid now (Ok x) same h = h ∙ same
+at_ok before mid now (Err e) same h = tt

@@ -1,6 +1,6 @@
 use Rattle.tile_bridge.proofs.Common.{all_took_as, archive, IsHiddenOr, rules, shown, sym, told_as_given, ◌∙◌, ◌≡◌}
 use Rattle.std.proofs.lemmas.Result.{on_ok_weaker}
-use Rattle.tile_bridge.proofs.WritingLemmas.{finish_refused, placed, written_took}
+use Rattle.tile_bridge.proofs.WritingLemmas.{at_ok, finish_refused, placed, written_took}
 use Rattle.tile_bridge.proofs.writing.write_archive.Goals as goal
 
 pub finalize-requires : goal.finalize-requires
@@ -38,4 +38,4 @@ returns-clause-shown g c =
     told_as_given (λ adds. IsHiddenOr (archive o adds)) _ (g.M.Backend.told c.finalize.new.medium) adds t.0 (c.finalize.ensures.kept.tells ∙ c.add_all.ensures.kept.tells) t.1 (c.finalize.ensures.shown o t.0 t.2)
 
 pub returns-clause-still : goal.returns-clause-still
-returns-clause-still g c = on_ok_weaker c.finalize.result (λ stands. stands ∙ c.in_ok-add_all.ensures.still ∙ c.in_ok-state.ensures.still) c.finalize.ensures.still
+returns-clause-still g c = at_ok _ _ _ c.finalize.result (c.in_ok-add_all.ensures.still ∙ c.in_ok-state.ensures.still) c.finalize.ensures.still

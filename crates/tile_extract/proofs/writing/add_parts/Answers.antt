@@ -1,4 +1,4 @@
-use Rattle.tile_extract.proofs.Common.{ap, arith, Err, Gives, header_of, IfSome, length, medium_then, no_items, Ok, PartsPut, range_read, reads_then, subst, sym, tile_count, ◌+◌, ◌∷◌, ◌≡◌}
+use Rattle.tile_extract.proofs.Common.{ap, arith, Err, Gives, header_of, IfSome, length, medium_then, no_items, Ok, PartsPut, range_read, reads_then, subst, sym, tile_count, ◌+◌, ◌∙◌, ◌∷◌, ◌≡◌}
 use Rattle.tile_extract.proofs.PartsLemmas.{put_all_parts, put_more, put_refused, read_at, read_refused, rest_ordered}
 use Rattle.tile_extract.proofs.writing.add_parts.Goals as goal
 
