@@ -198,7 +198,7 @@ run "$fatyngu" extract "$wide" none/other.pmtiles '0 0 0 0 0'
 status 6
 says "the file can't be made"
 # sides that are too long for an archive that says deep zooms
-run "$fatyngu" extract "$wide" deep.pmtiles 0/0/0
+run "$fatyngu" extract "$wide" deep.pmtiles 0/0/0 30
 status 0
 run "$fatyngu" extract deep.pmtiles other.pmtiles '23 1 1 8388606 8388606' '24 1 1 9000000 9000000'
 status 1

@@ -226,12 +226,12 @@ with_bytes "$described" 134 '\3\1'
 wrong_header 'clustered, tile entry 0 at 2 and not at 0'
 printf '\0' | dd of=other.pmtiles bs=1 seek=96 conv=notrunc status=none
 right_header
-# a part says the zooms that were asked for
+# a part says the deepest zoom that was asked for, and else that of the archive
 rm other.pmtiles
-run "$fatyngu" extract made.pmtiles other.pmtiles 1/0/0
+run "$fatyngu" extract made.pmtiles other.pmtiles 1/0/0 30
 wrong_header 'max zoom 30, found 4'
 rm other.pmtiles
-run "$fatyngu" extract made.pmtiles other.pmtiles 1/0/0 4
+run "$fatyngu" extract made.pmtiles other.pmtiles 1/0/0
 right_header
 # one that isn't sound has no line of its header
 head -c 100 made.pmtiles >other.pmtiles
