@@ -32,8 +32,8 @@ fn test_tiles(alloc: Global, header: &Header, met: Met) -> Result<VerifyReport, 
 
 /// Checks that an archive is sound, as `tile_verify::verify` does, and then that its header says what it has (PMTiles
 /// specification version 3): how many ids have a tile, how many tile entries and how many different contents there are,
-/// each unless the header says 0, which is unknown; exactly the least and the greatest zoom, where there are tiles; that
-/// contents are clustered, where it says so; and where metadata is, which has to be an object of JSON.
+/// each unless the header says 0, which is unknown; exactly the least and the greatest zoom, where there are tiles;
+/// that contents are clustered, where it says so; and where metadata is, which has to be an object of JSON.
 ///
 /// After Ok it is the report of `verify`. `Unsound` comes exactly where `verify` refuses, but for faults and want of
 /// memory, which come for the metadata too. `Header` comes exactly where the archive is sound and one of these tests

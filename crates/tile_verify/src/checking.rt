@@ -12,7 +12,8 @@ use pm_reader::{MAX_LEAVES, ReaderState};
 use std::alloc::Global;
 use tile_ids::MAX_TILE_ID;
 
-/// Walks all directories of an archive that opened, and tests them as `verify` does: all that they have, or the refusal.
+/// Walks all directories of an archive that opened, and tests them as `verify` does: all that
+/// they have, or the refusal.
 ///
 /// The refusal is never `Opening`. `Broken` comes exactly where a part of the archive is broken, with the first such
 /// part. `Fault` comes only where the source's count of faults rose, and `Short` only over a source that tells no
