@@ -16,6 +16,15 @@ explain() {
     esac
 }
 
+# test_trees FILE ERRORS: ends where SQLite finds the pages of a set's file damaged, since it reads past some damage and
+# gives fewer rows. Values that don't fit their columns, and pages that nothing uses, are no damage. ERRORS is a file
+# for what sqlite3 says.
+test_trees() {
+    sqlite3 -init /dev/null -batch "$(uri "$1")" '.timeout 5000' 'pragma quick_check(10000)' </dev/null >"$2.trees" 2>"$2" || explain "$1" "$2"
+    damage=$(LC_ALL=C awk '!/^ok$|^[*][*][*] |never used$|[Ff]reelist|^NULL value in |^CHECK constraint failed in | value in / { print; exit }' "$2.trees")
+    [ -z "$damage" ] || fail 1 "$1 is damaged: $damage"
+}
+
 # why SQLite can't open a file that is there
 explain_unopened() {
     beside=$(readlink -f "$1" 2>/dev/null) || beside=$1

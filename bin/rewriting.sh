@@ -65,6 +65,7 @@ rewrite() {
     encoding=$(ask "$1" 'pragma encoding')
     has=$(ask "$1" "select coalesce(max(lower(name) = 'tiles'), 0) || ' ' || coalesce(max(lower(name) = 'metadata'), 0) from sqlite_master where type in ('table', 'view')")
     [ "${has% *}" = 1 ] || fail 3 "$1 has no table or view named tiles"
+    test_trees "$1" "$room/errors"
     # texts in UTF-16 go by way of a file in UTF-16; a tile that is a text has other bytes there
     first=$2
     wide=0

@@ -39,6 +39,7 @@ fail_room() {
 # start_set FILE DATABASE LAYOUT: starts to read a file. Facts and rows come on file descriptor 3, and coordinates
 # are kept in the database.
 start_set() {
+    test_trees "$1" "$work/errors"
     mkfifo "$work/lines" || fail_room
     keeps=1
     [ "$2" != ':memory:' ] || keeps=0

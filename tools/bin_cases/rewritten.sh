@@ -137,3 +137,24 @@ says 'c.mbtiles'
 holds [ ! -e made.pmtiles ]
 holds nothing_left
 ends
+
+if command -v python3 >/dev/null; then
+    # SQLite gives 199 rows of the 200, and says nothing
+    fresh 'a table whose page says one row less'
+    "$real" a.mbtiles "pragma page_size = 512; $names; create table tiles ($columns, primary key (zoom_level, tile_column, tile_row)) without rowid;
+        with recursive n(k) as (select 0 union all select k + 1 from n where k < 199) insert into tiles select 8, k, k % 7, zeroblob(k % 90 + 1) from n"
+    python3 -c 'data = bytearray(open("a.mbtiles", "rb").read())
+at = next(at for at in range(512, len(data), 512) if data[at] == 10 and data[at + 4] > 2)
+data[at + 4] -= 1
+open("a.mbtiles", "wb").write(data)'
+    holds [ "$("$real" a.mbtiles 'select count(*) from tiles')" = 199 ]
+    for way in '' --by-script; do
+        # shellcheck disable=SC2086 no word, or one
+        run "$convert" $way a.mbtiles made.pmtiles
+        status 1
+        says 'a.mbtiles is damaged: '
+        holds [ ! -e made.pmtiles ]
+        holds nothing_left
+    done
+    ends
+fi
