@@ -1,5 +1,5 @@
-# Reads .mbtiles files by the command sqlite3, one process and one read transaction for each. Facts on the set
-# come first, then its rows.
+# Reads .mbtiles files by the command sqlite3, one process and one read transaction for each, behind a look for damage
+# by another. Facts on the set come first, then its rows.
 #
 # A fact is a line of words; texts in it are hexadecimal, and `-` stands for null:
 #   warn WORDS, refuse WORDS, none         what is said of the file, why it is refused, that it has no tiles table
