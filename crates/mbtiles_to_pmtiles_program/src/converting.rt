@@ -4,6 +4,7 @@ use crate::paged::{Paged, convert_pages};
 use crate::reading::{read_set, read_sets};
 use crate::saying::say_outcome;
 use base_values::TextVal;
+use mb_store::MemStore;
 use pm_format::FileMedium;
 use program_words::{
     Beside, Put, Taken, are_one_file, begin_step, put_beside, put_over, remove_beside, take_beside,
@@ -14,19 +15,20 @@ use std::fs;
 use tile_bridge::{ConvertReport, convert_owned};
 use tile_streaming::StreamReport;
 
-// Reads the base and the patches into memory, and converts them to a medium.
+// Reads the base and, unless they were read, the patches into memory, and converts them to a medium.
 fn convert_held(
     rt: &HostRuntime,
     flags: ConversionFlags,
-    sets: &[TextVal],
+    (first, rest): (&str, &[TextVal]),
+    read: Option<Vec<MemStore>>,
     medium: &mut FileMedium,
 ) -> Result<StreamReport, ConversionOutcome> {
-    let [first, rest @ ..] = sets else {
-        return Err(ConversionOutcome::Usage);
+    let base = read_set(rt, first, flags.strict)?;
+    let patches = match read {
+        Some(patches) => patches,
+        None => read_sets(rt, rest, flags.strict)?,
     };
-    let base = read_set(rt, first.as_str(), flags.strict)?;
-    let patches = read_sets(rt, rest, flags.strict)?;
-    let step = begin_step(rt, TOOL, "converting", first.as_str());
+    let step = begin_step(rt, TOOL, "converting", first);
     let options = OptionsOfSet::new(flags.force, flags.verify);
     let report = convert_owned(rt.alloc(), base, patches, &[], &options, medium)?;
     if medium.flush().is_err() {
@@ -51,23 +53,25 @@ fn reported(report: ConvertReport, is_hashed: bool) -> StreamReport {
     }
 }
 
-// Converts into the file beside the archive's place: a set without patches from the pages of its file, where these are
-// understood, and all others by way of memory.
+// Converts into the file beside the archive's place: the base from the pages of its file, where these are understood,
+// and else by way of memory.
 fn convert_beside(
     rt: &HostRuntime,
     flags: ConversionFlags,
     sets: &[TextVal],
     beside: &str,
 ) -> Result<StreamReport, ConversionOutcome> {
+    let [first, rest @ ..] = sets else {
+        return Err(ConversionOutcome::Usage);
+    };
     let Ok(mut medium) = FileMedium::open(rt, beside) else {
         return Err(ConversionOutcome::MediumFault);
     };
-    if let [set] = sets {
-        if let Paged::Ended(answer) = convert_pages(rt, flags, set.as_str(), &mut medium) {
-            return answer;
-        }
+    let files = (first.as_str(), rest);
+    match convert_pages(rt, flags, files, &mut medium) {
+        Paged::Ended(answer) => answer,
+        Paged::Refused(patches) => convert_held(rt, flags, files, patches, &mut medium),
     }
-    convert_held(rt, flags, sets, &mut medium)
 }
 
 // Makes the file beside the archive's place.

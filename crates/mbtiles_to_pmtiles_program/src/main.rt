@@ -26,10 +26,9 @@ there once it is whole. Lines at the end say how many tiles and different conten
 OUT has, its bytes, and, where it was made, the aggregate hash of its tiles. On a
 terminal each step is told.
 
-A set without patches takes some 100 bytes of memory a tile, whatever its tiles
-weigh, and one with a table of its own for contents holds their ids too; with
-patches, and where its file isn't understood page by page, all tiles are held in
-memory.
+The base takes some 100 bytes of memory a tile, whatever its tiles weigh, and one
+with a table of its own for contents holds their ids too; patches are held in
+memory, and so is a base whose file isn't understood page by page.
 
 --force      takes patches without the hashes that chain them; without it each
              has to name the aggregate hash of the set that it is for, and

@@ -1,20 +1,31 @@
-// A set without patches is converted from the pages of its file, with one content in memory at a time.
+// A set is converted from the pages of its file, with one content of it in memory at a time. Patches are read before.
 use crate::TOOL;
 use crate::left_out::say_left_out;
-use crate::reading::refuse_left_out;
+use crate::reading::{read_sets, refuse_left_out};
+use base_values::TextVal;
 use mb_file::SetFile;
+use mb_store::MemStore;
 use pm_format::{FileMedium, Medium};
 use program_words::begin_step;
 use set_conversion::{ConversionFlags, ConversionOutcome, OptionsOfSet};
 use tile_bridge::ConvertError;
-use tile_streaming::{StreamError, StreamReport, convert_streamed};
+use tile_streaming::{StreamError, StreamReport, convert_patched};
 
 /// What comes of a conversion from pages.
 #[derive(Drop)]
 pub enum Paged {
     /// It ended so.
     Ended(Result<StreamReport, ConversionOutcome>),
-    /// The set isn't converted so: the way by memory says why, or converts it.
+    /// The set isn't converted so: the way by memory says why, or converts it. The patches, if they were read.
+    Refused(Option<Vec<MemStore>>),
+}
+
+// Why a conversion from pages ends.
+#[derive(Drop)]
+enum Stop {
+    // With an outcome.
+    With(ConversionOutcome),
+    // The way by memory goes on.
     Refused,
 }
 
@@ -24,19 +35,21 @@ fn ended(
     path: &str,
     (file, medium): (&mut SetFile, &mut FileMedium),
     error: StreamError,
-) -> Paged {
+) -> Stop {
     match error {
         StreamError::StoreChanged => changed(rt, path),
-        StreamError::Convert(ConvertError::Store { .. }) => Paged::Refused,
-        StreamError::Convert(ConvertError::StoreFault { .. }) => faulted(rt, path, file, medium),
-        StreamError::Convert(error) => Paged::Ended(Err(ConversionOutcome::from(error))),
+        StreamError::Convert(ConvertError::Store { place: 0, .. }) => Stop::Refused,
+        StreamError::Convert(ConvertError::StoreFault { place: 0 }) => {
+            faulted(rt, path, file, medium)
+        }
+        StreamError::Convert(error) => Stop::With(ConversionOutcome::from(error)),
     }
 }
 
 // What a fault of the file comes to. Before anything was written it is a form of the file that isn't read so.
-fn faulted(rt: &HostRuntime, path: &str, file: &mut SetFile, medium: &mut FileMedium) -> Paged {
+fn faulted(rt: &HostRuntime, path: &str, file: &mut SetFile, medium: &mut FileMedium) -> Stop {
     if let Ok(0) = medium.len() {
-        return Paged::Refused;
+        return Stop::Refused;
     }
     if file.test_still(rt).is_err() {
         return changed(rt, path);
@@ -44,12 +57,12 @@ fn faulted(rt: &HostRuntime, path: &str, file: &mut SetFile, medium: &mut FileMe
     if let Some(fault) = file.set.last_fault() {
         let _ = eprintln!(rt; "{TOOL}: {path}: {fault}");
     }
-    Paged::Ended(Err(ConversionOutcome::InputFault))
+    Stop::With(ConversionOutcome::InputFault)
 }
 
-fn changed(rt: &HostRuntime, path: &str) -> Paged {
+fn changed(rt: &HostRuntime, path: &str) -> Stop {
     let _ = eprintln!(rt; "{TOOL}: {path} changed while it was read; try again");
-    Paged::Ended(Err(ConversionOutcome::Unread))
+    Stop::With(ConversionOutcome::Unread)
 }
 
 // Tells what is left out of a set of which all rows were read, and refuses it where nothing may be.
@@ -72,52 +85,75 @@ fn finish(
     flags: ConversionFlags,
     path: &str,
     (file, medium): (&mut SetFile, &mut FileMedium),
-    report: StreamReport,
-) -> Paged {
+) -> Option<Stop> {
     if file.test_still(rt).is_err() {
-        return changed(rt, path);
+        return Some(changed(rt, path));
     }
     if let Err(outcome) = told(rt, path, file, flags.strict) {
-        return Paged::Ended(Err(outcome));
+        return Some(Stop::With(outcome));
     }
     match medium.flush() {
-        Ok(()) => Paged::Ended(Ok(report)),
-        Err(_) => Paged::Ended(Err(ConversionOutcome::MediumFault)),
+        Ok(()) => None,
+        Err(_) => Some(Stop::With(ConversionOutcome::MediumFault)),
     }
 }
 
-// Converts the set of a file that is opened.
+// Converts the set of a file that is opened, and patches to it.
 fn convert_file(
     rt: &HostRuntime,
     flags: ConversionFlags,
     path: &str,
-    file: &mut SetFile,
+    (file, patches): (&mut SetFile, &mut Vec<MemStore>),
     medium: &mut FileMedium,
-) -> Paged {
+) -> Result<StreamReport, Stop> {
     let step = begin_step(rt, TOOL, "converting", path);
     let options = OptionsOfSet::new(flags.force, flags.verify);
-    match convert_streamed(rt.alloc(), &mut file.set, &[], &options, flags.hash, medium) {
+    let is_hashed = flags.hash || !patches.is_empty();
+    match convert_patched(rt.alloc(), &mut file.set, patches, &[], &options, is_hashed, medium) {
         Ok(report) => {
             step.end(rt, TOOL);
-            finish(rt, flags, path, (file, medium), report)
+            match finish(rt, flags, path, (file, medium)) {
+                None => Ok(report),
+                Some(stop) => Err(stop),
+            }
         }
-        Err(error) => ended(rt, path, (file, medium), error),
+        Err(error) => Err(ended(rt, path, (file, medium), error)),
     }
 }
 
-/// Converts the set of a file to an empty medium, which stays empty where it is refused.
+// Reads the patches to the set of a file that is opened, and converts it.
+fn convert_opened(
+    rt: &HostRuntime,
+    flags: ConversionFlags,
+    (path, rest): (&str, &[TextVal]),
+    file: &mut SetFile,
+    medium: &mut FileMedium,
+) -> Paged {
+    let mut patches = match read_sets(rt, rest, flags.strict) {
+        Ok(patches) => patches,
+        Err(outcome) => return Paged::Ended(Err(outcome)),
+    };
+    match convert_file(rt, flags, path, (file, &mut patches), medium) {
+        Ok(report) => Paged::Ended(Ok(report)),
+        Err(Stop::With(outcome)) => Paged::Ended(Err(outcome)),
+        Err(Stop::Refused) => Paged::Refused(Some(patches)),
+    }
+}
+
+/// Converts the set of a file, and patches in the other files to it, to an empty medium, which stays empty where that
+/// is refused.
 pub fn convert_pages(
     rt: &HostRuntime,
     flags: ConversionFlags,
-    path: &str,
+    (path, rest): (&str, &[TextVal]),
     medium: &mut FileMedium,
 ) -> Paged {
     let step = begin_step(rt, TOOL, "reading", path);
     match SetFile::open(rt, path) {
         Ok(mut file) => {
             step.end(rt, TOOL);
-            convert_file(rt, flags, path, &mut file, medium)
+            convert_opened(rt, flags, (path, rest), &mut file, medium)
         }
-        Err(_) => Paged::Refused,
+        Err(_) => Paged::Refused(None),
     }
 }
