@@ -172,9 +172,11 @@ run bash -c 'ulimit -v 81920; exec "$0" --hash a.mbtiles hashed.pmtiles' "$here/
 status 0
 prints '^aggregate [0-9A-F]\{32\}$'
 holds cmp -s made.pmtiles hashed.pmtiles
-# all tiles are held where there are patches
-set_of b.mbtiles "$one"
-run bash -c 'ulimit -v 81920; exec "$0" --force a.mbtiles b.mbtiles patched.pmtiles' "$here/crates/mbtiles_to_pmtiles_program/out/mbtiles_to_pmtiles_program"
-status 7
-holds [ ! -e patched.pmtiles ]
+# of a set with patches the patches alone are held
+set_of b.mbtiles "$one; insert into tiles values (6, 3, 4, x'0203')"
+set_of c.mbtiles "insert into tiles values (6, 3, 4, x'04'), (6, 9, 9, x'')"
+run bash -c 'ulimit -v 81920; exec "$0" --force a.mbtiles b.mbtiles c.mbtiles patched.pmtiles' "$here/crates/mbtiles_to_pmtiles_program/out/mbtiles_to_pmtiles_program"
+status 0
+prints '^aggregate [0-9A-F]\{32\}$'
+holds same patched.pmtiles a.mbtiles b.mbtiles c.mbtiles
 ends
