@@ -59,8 +59,8 @@ def says_of_itself():
 
 
 def streamed(script, held=b"", name="streamed"):
-    """A conversion of a script's base that holds no contents: what the archive and the answers are, and the hash of all
-    tiles where it is verified, or wanted for itself (`hashed`). The options are the script's, or those that the base says
+    """A conversion that holds no contents of a script's base: what the archive and the answers are, and the hash of all
+    tiles where it is verified, or wanted for itself (`hashed`). The options are the script's, or those that the set says
     of itself."""
     by_itself = name == "streamed-said"
     script = script.encode() if isinstance(script, str) else script
@@ -71,7 +71,7 @@ def streamed(script, held=b"", name="streamed"):
         return case(fields, f"1|refused: medium not empty {len(held)}|{rows}|{len(held)}|{shown(held, 64)}")
     if given.options["internal-compression"] != 1 and not by_itself:
         return case(fields, f"1|refused: unsupported compression {LABELS[given.options['internal-compression']]}|{rows}|0|")
-    state = converted(given.stores[:1], given.options["force"], given.options["verify"])
+    state = converted(given.stores, given.options["force"], given.options["verify"])
     if isinstance(state, bytes):
         return case(fields, f"1|{shown(b'refused: ' + state, 4000)}|{rows}|0|")
     adds = adds_of(state.tiles)

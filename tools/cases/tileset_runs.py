@@ -113,14 +113,18 @@ def in_a_row(ends):
 
 def hindered(script, name="hindered"):
     """Each call of each store and of the medium fails in a conversion of its own: the base's tables are those at the
-    start, or wholly patched where the medium fails after the commit."""
+    start, or wholly patched where the medium fails after the commit. A conversion that holds no contents only reads the
+    base."""
     given = parsed(script.encode())
     refusal, after = base_after(given)
     assert refusal is None
     before, after = (rows_of(tables, escaped) for tables in (words_of(given.stores[0]), after))
+    if name not in ("hindered", "hindered-said"):
+        after = before
     for place in range(len(given.stores)):
         case([name, str(place), escaped(script.encode())], in_a_row([f"1|refused: StoreFault {place}|{before}", f"0||{after}"]))
-    case([name, "medium", escaped(script.encode())], in_a_row([f"1|refused: MediumFault|{before}", f"1|refused: MediumFault|{after}", f"0||{after}"]))
+    ends = dict.fromkeys([f"1|refused: MediumFault|{before}", f"1|refused: MediumFault|{after}", f"0||{after}"])
+    case([name, "medium", escaped(script.encode())], in_a_row(list(ends)))
 
 
 def views(words, script, ids):

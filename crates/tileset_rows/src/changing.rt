@@ -7,7 +7,7 @@ use mb_store::{Changes, MemStore, Row, RowKey, StoreError, TableDesc, TableName,
 use pm_format::MemMedium;
 use std::alloc::Global;
 use std::fmt::Write;
-use tile_streaming::convert_streamed;
+use tile_streaming::{convert_patched, convert_streamed};
 use tileset::Outcome;
 use tileset_script::ParsedScript;
 
@@ -114,7 +114,7 @@ fn say_changed(
     let ParsedScript {
         options,
         base,
-        patches: _,
+        mut patches,
         queries,
     } = script;
     let mut store = Changing {
@@ -126,7 +126,11 @@ fn say_changed(
     let mut medium = MemMedium::new(alloc);
     let options = options_of(options);
     let coords = queries.as_slice();
-    let answer = convert_streamed(alloc, &mut store, coords, &options, false, &mut medium);
+    let answer = if patches.is_empty() {
+        convert_streamed(alloc, &mut store, coords, &options, false, &mut medium)
+    } else {
+        convert_patched(alloc, &mut store, &mut patches, coords, &options, false, &mut medium)
+    };
     match whole(alloc, answer) {
         Ok(_) => said_outcome(alloc, out, Outcome::Done)?,
         Err(error) => said_outcome(alloc, out, Outcome::Refused(error))?,

@@ -10,7 +10,9 @@ use std::alloc::Global;
 use std::fmt::Write;
 use tile_bridge::{ConvertError, ConvertOptions, ConvertReport, convert};
 use tile_ids::TileCoord;
-use tile_streaming::{StreamError, StreamReport, convert_streamed};
+use tile_streaming::{
+    StreamError, StreamOptions, StreamReport, convert_patched, convert_streamed,
+};
 use tileset::{MAX_INPUT, Outcome};
 use tileset_script::{ParsedScript, ScriptOptions, parse_script};
 
@@ -88,11 +90,11 @@ pub enum Options {
     Script,
     /// Those that the set says of itself, beside the script's two flags.
     Set,
-    /// The script's, for a conversion of the base alone that holds no contents.
+    /// The script's, for a conversion that holds no contents of the base.
     Streamed,
     /// The same, and the hash of all tiles is wanted for itself.
     Hashed,
-    /// Those that the base says of itself, for such a conversion.
+    /// Those that the set says of itself, for such a conversion.
     StreamedSet,
 }
 
@@ -122,6 +124,23 @@ pub fn whole(
     }
 }
 
+// A conversion that holds no contents of the base.
+fn streamed<S: TileStore, P: TileStore, O: StreamOptions, M: Medium>(
+    alloc: Global,
+    (base, patches): (&mut S, &mut Vec<P>),
+    coords: &[TileCoord],
+    options: &O,
+    hash: bool,
+    medium: &mut M,
+) -> Result<ConvertReport, ConvertError> {
+    if patches.is_empty() {
+        let answer = convert_streamed(alloc, base, coords, options, hash, medium);
+        return whole(alloc, answer);
+    }
+    let answer = convert_patched(alloc, base, patches, coords, options, hash, medium);
+    whole(alloc, answer)
+}
+
 /// A conversion, with nothing said of it.
 pub fn converted<S: TileStore, P: TileStore, M: Medium>(
     alloc: Global,
@@ -140,17 +159,14 @@ pub fn converted<S: TileStore, P: TileStore, M: Medium>(
             convert(alloc, base, patches, coords, &said, medium)
         }
         Options::Streamed => {
-            let answer = convert_streamed(alloc, base, coords, &given, false, medium);
-            whole(alloc, answer)
+            streamed(alloc, (base, patches), coords, &given, false, medium)
         }
         Options::Hashed => {
-            let answer = convert_streamed(alloc, base, coords, &given, true, medium);
-            whole(alloc, answer)
+            streamed(alloc, (base, patches), coords, &given, true, medium)
         }
         Options::StreamedSet => {
             let said = OptionsOfSet::new(given.force, given.verify);
-            let answer = convert_streamed(alloc, base, coords, &said, false, medium);
-            whole(alloc, answer)
+            streamed(alloc, (base, patches), coords, &said, false, medium)
         }
     }
 }
