@@ -12,3 +12,7 @@ pub mod Written
 pub mod RowMarks
 pub mod RowTests
 pub mod Seen
+pub mod Overlaid
+pub mod PatchedSet
+pub mod Patching
+pub mod Stored
