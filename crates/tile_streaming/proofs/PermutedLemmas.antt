@@ -1,7 +1,6 @@
 -- Lists in another order: what a filter leaves of them, and the entries of a map that is held in two parts.
-use Rattle.tile_streaming.proofs.Common.{ap, arith, Bool, cond, entries, entries_sorted, false, false≢true, filter, get, get-entries, get_or, IsPermutation, IsPermutation-cons, IsPermutation-refl, IsPermutation-trans}
-use Rattle.tile_streaming.proofs.Common.{is_some, is_sorted, IsTotalOrder, length, List, None, not, Option, option_or, Ordering, refl, Some, subst, suc, sym, T, true, zero, ℕ, [], ◌++◌, ◌<◌, ◌∙◌, ◌∷◌, ◌≡◌}
-use Rattle.tile_streaming.proofs.Common.{Equal}
+use Rattle.tile_streaming.proofs.Common.{ap, arith, Bool, cond, entries, entries_sorted, Equal, false, false≢true, filter, get, get-entries, get_or, Has, inl, inr, IsPermutation, IsPermutation-cons, IsPermutation-refl, IsPermutation-trans}
+use Rattle.tile_streaming.proofs.Common.{is_some, is_sorted, IsTotalOrder, length, List, map, None, not, Option, option_or, Ordering, refl, Some, subst, suc, sym, T, true, zero, ℕ, [], ◌++◌, ◌<◌, ◌∙◌, ◌∷◌, ◌≡◌}
 use Rattle.std.proofs.Common.{set}
 use Rattle.std.proofs.lemmas.List.Edits.{swap_is}
 use Rattle.std.proofs.lemmas.List.Sorted.{IsPermutation-filter_both, IsPermutation-keeps, IsPermutation-swap}
@@ -100,3 +99,12 @@ module _ {K V : Type 0} {R : K → K → Ordering} (total : IsTotalOrder R) (ant
 
       below : entries rest ≡ filter (λ e. not (contains_key over e.0)) (entries s)
       below = entries_where rest s (λ q. not (contains_key over q)) (λ q x tie. ap not (alike q x tie)) (λ q. lower (get over q) (get rest q) (apart q) ∙ ap (λ o. cond (not (contains_key over q)) o None) (sym (lies q)))
+
+-- what passes of mapped elements, where each passes as its image does
+pub filter_mapped : {X Y : Type 0} (f : X → Y) (p : Y → Bool) (r : X → Bool) (xs : List X) → ((x : X) → Has x xs → p (f x) ≡ r x) → filter p (map f xs) ≡ map f (filter r xs)
+filter_mapped f p r [] h = refl
+filter_mapped f p r (x ∷ xs) h = ap (λ b. cond b (f x ∷ filter p (map f xs)) (filter p (map f xs))) (h x (inl refl)) ∙ by (r x) (filter_mapped f p r xs (λ y there. h y (inr there)))
+  where
+    by : (b : Bool) → filter p (map f xs) ≡ map f (filter r xs) → cond b (f x ∷ filter p (map f xs)) (filter p (map f xs)) ≡ map f (cond b (x ∷ filter r xs) (filter r xs))
+    by true e = ap (λ l. f x ∷ l) e
+    by false e = e
