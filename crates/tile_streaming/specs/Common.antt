@@ -46,7 +46,7 @@ pub use Rattle.pm_writer.specs.declared.places.ArchivePlaces.{ArchivePlaces}
 pub use Rattle.pm_writer.specs.declared.state.WriterState.{WriterState}
 pub use Rattle.set_options.specs.Facts.{facts_of, is_gzip, no_facts, with_filled}
 pub use Rattle.set_options.specs.declared.facts.TileFacts.{TileFacts}
-pub use Rattle.std.specs.FinMap.{entries, from_entries}
+pub use Rattle.std.specs.FinMap.{contains_key, entries, from_entries, get}
 pub use Rattle.std.specs.List.{cons_option, list_all, list_any}
 pub use Rattle.std.specs.Option.{option_copied, option_map, option_or}
 pub use Rattle.std.specs.Ordering.{nat_cmp}

@@ -12,3 +12,5 @@ pub mod Written
 pub mod RowMarks
 pub mod RowTests
 pub mod Seen
+pub mod Overlaid
+pub mod Stored

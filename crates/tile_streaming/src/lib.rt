@@ -14,6 +14,7 @@ mod marking;
 mod names;
 mod options;
 mod ordering;
+mod overlaid;
 mod reading;
 mod report;
 mod row_marks;
