@@ -8,6 +8,7 @@ pub mod KnownLemmas
 pub mod MarkLemmas
 pub mod MemberLemmas
 pub mod OutlineLemmas
+pub mod OverlayLemmas
 pub mod PermutedLemmas
 pub mod RankLemmas
 pub mod ReadLemmas

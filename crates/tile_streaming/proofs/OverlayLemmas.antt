@@ -1,6 +1,6 @@
 -- Patches of tiles that lie over others: how they are tested, and what each of the two has afterwards.
-use Rattle.tile_streaming.proofs.Common.{address_within, AllByRecursion, ap, Bool, cond, entries, entries_sorted, false, false≢true, filter, find_has, get, get-entries, Has, has_find, HashAlgorithm, InRange, IsPermutation, is_some, List}
-use Rattle.tile_streaming.proofs.Common.{map, mark_of, MbtError, MbtType, Names, None, not, Option, option_or, Place, place_cmp, places_total, place_with, refl, Some, sorted_true, State, subst, sym, TileSet, true, ◌∙◌, ◌≡◌}
+use Rattle.tile_streaming.proofs.Common.{address_within, ap, Bool, cond, entries, entries_sorted, false, false≢true, filter, find_has, get, get-entries, Has, has_find, HashAlgorithm, InRange, IsPermutation, is_some, List}
+use Rattle.tile_streaming.proofs.Common.{map, mark_of, MbtType, Names, None, not, Option, option_or, Place, place_cmp, places_total, place_with, refl, Some, sorted_true, State, subst, sym, TileSet, true, ℕ, ◌∙◌, ◌≡◌}
 use Rattle.mb_edit.proofs.PatchedLemmas.{get-left, get-patched_by}
 use Rattle.mb_edit.specs.Patched.{patched, patched_at}
 use Rattle.mb_edit.specs.PatchingOrder.{may_patch}
@@ -71,13 +71,14 @@ module _ (q : TileSet) where
       by None h = apart h
       by (Some c) h = refl
 
-  -- marks that are left are those of the tiles that are left
-  pub marks_left : (rest : TileSet) (marks : List Mark) → AllRanged (entries rest) → IsPermutation (map mark_of (entries rest)) marks → IsPermutation (map mark_of (entries (left rest))) (filter (λ m. not (contains_key q (place_with m.id))) marks)
+  -- whether a mark is of a place that the patch hasn't
+  abbrev pub stays : Mark → Bool
+  stays m = not (contains_key q (place_with m.id))
+
+  -- the marks that are left are those of the tiles that are left
+  pub marks_left : (rest : TileSet) (marks : List Mark) → AllRanged (entries rest) → IsPermutation (map mark_of (entries rest)) marks → IsPermutation (map mark_of (entries (left rest))) (filter stays marks)
   marks_left rest marks ranged same = subst (λ l. IsPermutation l (filter stays marks)) those (filter_permuted stays (map mark_of (entries rest)) marks same)
     where
-      stays : Mark → Bool
-      stays m = not (contains_key q (place_with m.id))
-
       at_place : (e : Place × Option (List ℕ)) → Has e (entries rest) → stays (mark_of e) ≡ not (contains_key q e.0)
       at_place e there = let at = ranged e there in ap (λ p. not (contains_key q p)) (place_again e.0 at (address_within e.0 at))
 
