@@ -1,13 +1,13 @@
 -- Contents of marks that are added one after another.
-use Rattle.tile_streaming.proofs.Common.{add_to, AddFits, adds_of, and_parts, ap, AreAdded, AreRead, arith, beq, Bool, drop, false, false≢true, fits, get_or, HaveLengths, is_gzip, is_some, IsAddedFor, IsRead, length, List, list_any, list_any_at, Mark, MbtType, nat_eq, nat_le, nat_tests, Option, option_map, Options, overflow_of, refl, row_bytes, row_told, Some}
-use Rattle.tile_streaming.proofs.Common.{subst, sym, Tables, take, take-append-drop, take_more, took_as, took_more, TookAll, true, WriterState, xxh3_64, ℕ, [], ◌&&◌, ◌++◌, ◌+◌, ◌<◌, ◌^◌, ◌∙◌, ◌∷◌, ◌≡◌}
+use Rattle.tile_streaming.proofs.Common.{add_to, AddFits, adds_of, and_parts, ap, AreAdded, AreRead, arith, beq, Bool, drop, false, false≢true, fits, get_or, HaveLengths, is_gzip, is_some, IsAddedFor, IsRead, length, List, list_any, list_any_at, Mark, nat_eq, nat_le, nat_tests, Option, Options, overflow_of, refl, Some}
+use Rattle.tile_streaming.proofs.Common.{subst, sym, take, take-append-drop, take_more, took_as, took_more, TookAll, true, WriterState, xxh3_64, ℕ, [], ◌&&◌, ◌++◌, ◌+◌, ◌<◌, ◌^◌, ◌∙◌, ◌∷◌, ◌≡◌}
 use Rattle.tile_streaming.proofs.ReadLemmas.{adds_more, front_fits, lengths_read, next_fits, or_parts, read_more}
-use Rattle.mb_tables.specs.declared.cell.Cell.{Cell}
 use Rattle.std.proofs.Common.{◌%◌}
 use Rattle.tile_streaming.proofs.SizeLemmas.{small_is}
 use Rattle.tile_streaming.specs.Finding.{has_size}
 use Rattle.tile_streaming.specs.Marks.{mark_with}
 use Rattle.tile_streaming.specs.Sizing.{is_too_long}
+use Rattle.tile_streaming.specs.Stored.{Stored}
 
 number_of : (a b : ℕ) → nat_eq a b ≡ true → a ≡ b
 number_of a b h = grind (arith, nat_tests)
@@ -41,16 +41,15 @@ fits_mark m bytes fit =
     let gzip = f.gzip in
     λ i. record { id = m.id; digest = digest i; length = size i; is_long = long i; gzip = gzip i }
 
--- what the contents of a row are, where they fit a mark
-pub fits_read : (tells : Bool) (t : Tables) (layout : MbtType) (m : Mark) (row : List Cell) → m.is_long ≡ false → fits m (row_bytes layout row) ≡ true → (tells ≡ true → row_told layout t m.id ≡ Some row) → IsRead tells t layout m (row_bytes layout row)
-fits_read tells t layout m row short fit told =
-    let bytes = row_bytes layout row in
+-- what bytes are that were found, where they fit a mark
+pub fits_read : (tells : Bool) (t : Stored) (m : Mark) (bytes : List ℕ) → m.is_long ≡ false → fits m bytes ≡ true → (tells ≡ true → t m.id ≡ Some bytes) → IsRead tells t m bytes
+fits_read tells t m bytes short fit told =
     let f = fits_parts m bytes fit in
     record {
       size = sym (small_is (length bytes) (f.is_long ∙ short)) ∙ f.length_is;
       digest = λ some. f.digest;
       gzip = λ some. f.gzip;
-      same = λ some u. ap (option_map (row_bytes layout)) (told u);
+      same = λ some u. told u;
     }
 
 -- a mark in a list that doesn't overflow is of few bytes
@@ -65,23 +64,23 @@ short_mark marks i m size far is = (or_parts m.is_long (nat_le (2 ^ 32) m.length
     by true e = absurd (false≢true (sym none ∙ list_any_at is_too_long marks i m far (ap is_too_long (sym is) ∙ e)))
 
 -- nothing is read for a mark of no byte
-pub none_read : (tells : Bool) (t : Tables) (layout : MbtType) (m : Mark) → m.length ≡ 0 → IsRead tells t layout m []
-none_read tells t layout m none = record {
+pub none_read : (tells : Bool) (t : Stored) (m : Mark) → m.length ≡ 0 → IsRead tells t m []
+none_read tells t m none = record {
   size = sym none;
   digest = λ some. absurd (omega (arith, none, some));
   gzip = λ some. absurd (omega (arith, none, some));
   same = λ some. absurd (omega (arith, none, some));
 }
 
-read_as : (tells now_tells : Bool) (t now : Tables) (layout : MbtType) (m : Mark) (bytes : List ℕ) → now_tells ≡ tells → now ≡ t → IsRead now_tells now layout m bytes → IsRead tells t layout m bytes
-read_as tells now_tells t now layout m bytes same told r = subst (λ b. IsRead b t layout m bytes) same (subst (λ x. IsRead now_tells x layout m bytes) told r)
+read_as : (tells now_tells : Bool) (t now : Stored) (m : Mark) (bytes : List ℕ) → now_tells ≡ tells → now ≡ t → IsRead now_tells now m bytes → IsRead tells t m bytes
+read_as tells now_tells t now m bytes same told r = subst (λ b. IsRead b t m bytes) same (subst (λ x. IsRead now_tells x m bytes) told r)
 
-module _ (o : Options) (tells now_tells : Bool) (t now : Tables) (layout : MbtType) (marks : List Mark) (i : ℕ) (m : Mark) (old mid : Option (List ℕ)) (s : WriterState) (far : i < length marks) (is : m ≡ get_or marks i m) (so : AreAdded o tells t layout (take i marks) old mid s) where
+module _ (o : Options) (tells now_tells : Bool) (t now : Stored) (marks : List Mark) (i : ℕ) (m : Mark) (old mid : Option (List ℕ)) (s : WriterState) (far : i < length marks) (is : m ≡ get_or marks i m) (so : AreAdded o tells t (take i marks) old mid s) where
   front : take (i + 1) marks ≡ take i marks ++ m ∷ []
   front = take_more marks i m far ∙ ap (λ x. take i marks ++ x ∷ []) (sym is)
 
   lengths : HaveLengths (take i marks) so.contents
-  lengths = lengths_read tells t layout (take i marks) so.contents so.read
+  lengths = lengths_read tells t (take i marks) so.contents so.read
 
   -- it fits
   pub fits_now : overflow_of marks ≡ false → length o.metadata < 2 ^ 63 → (taken : List ℕ) → length taken ≡ m.length → 0 < m.length → AddFits o so.taken m.id taken
@@ -90,10 +89,10 @@ module _ (o : Options) (tells now_tells : Bool) (t now : Tables) (layout : MbtTy
       next_fits old o (take i marks) so.contents m so.taken taken metadata (front_fits (take i marks ++ m ∷ []) (drop (i + 1) marks) (ap overflow_of whole ∙ fit)) lengths so.took size some
 
   -- and with it one more is added
-  pub added_next : (new : Option (List ℕ)) (next : WriterState) → now_tells ≡ tells → now ≡ t → is_some mid ≡ is_some old → IsAddedFor o so.taken now_tells now layout m mid new next → AreAdded o tells t layout (take (i + 1) marks) old new next
+  pub added_next : (new : Option (List ℕ)) (next : WriterState) → now_tells ≡ tells → now ≡ t → is_some mid ≡ is_some old → IsAddedFor o so.taken now_tells now m mid new next → AreAdded o tells t (take (i + 1) marks) old new next
   added_next new next same told told_same a = record {
     contents = so.contents ++ a.bytes ∷ [];
-    read = subst (λ ms. AreRead tells t layout ms (so.contents ++ a.bytes ∷ [])) (sym front) (read_more tells t layout (take i marks) so.contents m a.bytes so.read (read_as tells now_tells t now layout m a.bytes same told a.read));
+    read = subst (λ ms. AreRead tells t ms (so.contents ++ a.bytes ∷ [])) (sym front) (read_more tells t (take i marks) so.contents m a.bytes so.read (read_as tells now_tells t now m a.bytes same told a.read));
     taken = add_to so.taken m.id a.added.taken;
     took = subst (λ gs. TookAll old gs (add_to so.taken m.id a.added.taken)) (sym (ap (λ ms. adds_of ms (so.contents ++ a.bytes ∷ [])) front ∙ adds_more (take i marks) so.contents m a.bytes lengths))
         (took_more old (adds_of (take i marks) so.contents) so.taken m.id a.bytes a.added.taken so.took (took_as (λ takes. takes a.bytes a.added.taken) mid old (sym told_same) a.added.took));

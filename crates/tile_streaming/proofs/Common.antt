@@ -80,21 +80,24 @@ pub use Rattle.tile_streaming.specs.Common.{refusal_at, Rose, RoseAt, row_refusa
 pub use Rattle.tile_streaming.specs.Common.{tile_table, TileFacts, TileSet, Took, TookAll, with_filled, WriterState, Writes, wrong_content_hash, wrong_id, wrong_tile_hash}
 unfoldable pub use Rattle.tile_streaming.specs.Common.{aggregate, archive, coord_of, xxh3_64}
 pub use Rattle.tile_streaming.specs.Contents.{AreContents, HasSeen, hollow, hollow_content, hollow_row, hollow_rows, Knows, mark_of_cell, mark_under, marks_by_row, SeesContents}
-pub use Rattle.tile_streaming.specs.Finding.{bytes_told, content_cell, fits, IsStored, named_told, place_with, row_bytes, row_told, tile_told}
+pub use Rattle.tile_streaming.specs.Finding.{bytes_told, content_cell, fits, named_told, place_with, row_bytes, row_told, tile_told}
 pub use Rattle.tile_streaming.specs.MarkFacts.{facts_of_marks, is_empty, with_mark}
 pub use Rattle.tile_streaming.specs.Marks.{AreMarksOf, IsMarked, IsMarkedAs, IsMarkedSet, mark_of}
 pub use Rattle.tile_streaming.specs.RowMarks.{mark_in, marks_in}
 pub use Rattle.tile_streaming.specs.RowTests.{AreFindings, IsNamedBy, names_refused, settled, unless_found}
 pub use Rattle.tile_streaming.specs.Seen.{AreMarked, AreMarkedFrom, SeesRows, SeesTold}
 pub use Rattle.tile_streaming.specs.Sizing.{is_too_long, overflow_of}
-pub use Rattle.tile_streaming.specs.Streaming.{as_convert, as_report, due_of, HidesRest, IsHeldWith, IsMarkedFrom, IsOfState, IsUnwritten, StreamCauses, StreamEnds, StreamLeaves}
+pub use Rattle.tile_streaming.specs.Streaming.{as_convert, as_report, due_of, HidesRest, IsHeld, IsHeldOf, IsHeldWith, IsOfState, IsUnwritten, StreamCauses, StreamEnds, StreamLeaves, tested_due}
 pub use Rattle.tile_streaming.specs.Written.{AddsCauses, FindCauses, HasWritten, IsChanged, IsOfRead, of_find_error, StepCauses, WrittenLeaves}
 pub use Rattle.tile_streaming.specs.declared.contents.Known.{Known}
 pub use Rattle.tile_streaming.specs.declared.contents.SeenContents.{SeenContents}
 pub use Rattle.tile_streaming.specs.declared.error.StreamError.{StreamError}
 pub use Rattle.tile_streaming.specs.declared.mark.Mark.{Mark}
+pub use Rattle.tile_streaming.specs.PatchedSet.{bytes_in, held_bytes, stored_in}
+pub use Rattle.tile_streaming.specs.Stored.{bytes_over, HasBytes, IsStored, over_bytes, Stored}
 pub use Rattle.tile_streaming.specs.declared.mark.MarkedSet.{MarkedSet}
 pub use Rattle.tile_streaming.specs.declared.names.Named.{Named}
+pub use Rattle.tile_streaming.specs.declared.patched_set.PatchedSet.{PatchedSet}
 pub use Rattle.tile_streaming.specs.declared.report.StreamReport.{StreamReport}
 pub use Rattle.tile_streaming.specs.declared.row_tests.Findings.{Findings}
 pub use Rattle.tile_streaming.specs.declared.seen_rows.SeenRows.{SeenRows}

@@ -1,6 +1,6 @@
 -- The hash of a marked set.
-use Rattle.tile_streaming.proofs.Common.{address, aggregate, ap, arith, Bool, bytes_of, bytes_told, entries, eq_by_cmp, eq_by_cmp_equiv, Has, has_back, HashAlgorithm, IsMarkedAs, IsPermutation-map, IsPermutation-refl, is_sorted, IsSound, length, length-map, length_permutation, List, map, Mark, MarkedSet, mark_of, MAX_TILE_ID, MbtType, nat_cmp, nat_cmp_total, nat_eq, nat_tests, Ok}
-use Rattle.tile_streaming.proofs.Common.{Option, Place, place_cmp, refl, Some, State, state_of, subst, suc, sym, T, Tables, true, false, ℕ, [], ◌++◌, ◌∙◌, ◌∷◌, ◌≡◌, ◌≢◌, ◌≤◌}
+use Rattle.tile_streaming.proofs.Common.{address, aggregate, ap, arith, Bool, bytes_of, entries, eq_by_cmp, eq_by_cmp_equiv, Has, has_back, HashAlgorithm, IsMarkedAs, IsPermutation-map, IsPermutation-refl, is_sorted, length, length-map, length_permutation, List, map, Mark, MarkedSet, mark_of, MAX_TILE_ID, nat_cmp, nat_cmp_total, nat_eq, nat_tests}
+use Rattle.tile_streaming.proofs.Common.{Option, Place, place_cmp, refl, Some, State, subst, suc, sym, T, true, false, ℕ, [], ◌++◌, ◌∙◌, ◌∷◌, ◌≡◌, ◌≢◌, ◌≤◌}
 use Rattle.std.proofs.Common.{flat_map}
 use Rattle.std.proofs.lemmas.Map.Keys.{IsDistinct-IsPermutation}
 use Rattle.std.specs.Fmt.{decimal}
@@ -10,11 +10,12 @@ use Rattle.tile_hash.specs.declared.hash_stream.HashStream.{HashStream}
 use Rattle.tile_streaming.proofs.MarkLemmas.{AllRanged, marks_differ, marks_low, Pairs, ranged_all}
 use Rattle.tile_streaming.proofs.OutlineLemmas.{plain, places_rise, read_alike, read_plain}
 use Rattle.tile_streaming.proofs.SpotLemmas.{all_marks, ranks_rise}
-use Rattle.tile_streaming.proofs.StoredLemmas.{told_row}
+use Rattle.tile_streaming.proofs.StoredLemmas.{bytes_there}
 use Rattle.tile_streaming.specs.Common.{hash_of, in_hexadecimal, tile_text}
 use Rattle.tile_streaming.specs.Hashing.{AreHashed, AreReadAgain, HasHash, outline, tiles_with}
 use Rattle.tile_streaming.specs.Spots.{AreSpots, marks_at}
 use Rattle.tile_streaming.specs.declared.spots.Spot.{Spot}
+use Rattle.tile_streaming.specs.Stored.{HasBytes, Stored}
 
 -- tiles of the same places and bytes have one hash
 abbrev plain_text : Place × List ℕ → List ℕ
@@ -53,18 +54,18 @@ no_tiles : (es : Pairs) → length es ≡ 0 → es ≡ []
 no_tiles [] h = refl
 no_tiles (e ∷ es) h = absurd (omega (arith, h))
 
-tiles_long : (tells : Bool) (t : Tables) (layout : MbtType) (ms : List Mark) (cs : List (List ℕ)) → AreReadAgain tells t layout ms cs → length (tiles_with ms cs) ≡ length ms
-tiles_long tells t layout [] [] r = refl
-tiles_long tells t layout [] (c ∷ cs) r = absurd r
-tiles_long tells t layout (m ∷ ms) [] r = absurd r
-tiles_long tells t layout (m ∷ ms) (c ∷ cs) r = ap suc (tiles_long tells t layout ms cs r.1)
+tiles_long : (tells : Bool) (t : Stored) (ms : List Mark) (cs : List (List ℕ)) → AreReadAgain tells t ms cs → length (tiles_with ms cs) ≡ length ms
+tiles_long tells t [] [] r = refl
+tiles_long tells t [] (c ∷ cs) r = absurd r
+tiles_long tells t (m ∷ ms) [] r = absurd r
+tiles_long tells t (m ∷ ms) (c ∷ cs) r = ap suc (tiles_long tells t ms cs r.1)
 
 full_hash : (a : HashAlgorithm) (fs : Pairs) → length fs ≢ 0 → hash_of a fs ≡ digest (in_hexadecimal a) (flat_map tile_text fs)
 full_hash a [] some = absurd (some refl)
 full_hash a (f ∷ fs) some = refl
 
 -- of a state of which the set is held
-module _ (tells : Bool) (t : Tables) (m : MarkedSet) (sound : tells ≡ true → IsSound t) (s : State) (held : IsMarkedAs s m) (due : tells ≡ true → state_of t ≡ Ok s) where
+module _ (tells : Bool) (t : Stored) (m : MarkedSet) (s : State) (held : IsMarkedAs s m) (has : tells ≡ true → HasBytes t s.tiles) where
   abbrev marks : List Mark
   marks = m.marks.items
 
@@ -74,8 +75,8 @@ module _ (tells : Bool) (t : Tables) (m : MarkedSet) (sound : tells ≡ true →
   ranged : AllRanged es
   ranged = ranged_all es held.ranged
 
-  stored : tells ≡ true → (e : Place × Option (List ℕ)) → Has e es → bytes_told m.layout t (address e.0) ≡ Some (bytes_of e.1)
-  stored u e h = subst (λ l. bytes_told l t (address e.0) ≡ Some (bytes_of e.1)) (sym held.layout) (told_row t s (sound u) (due u) e h (ranged e h))
+  stored : tells ≡ true → (e : Place × Option (List ℕ)) → Has e es → t (address e.0) ≡ Some (bytes_of e.1)
+  stored u e h = bytes_there t s.tiles (has u) e h
 
   -- without tiles
   pub none_hashed : length marks ≡ 0 → (text : List ℕ) → text ≡ digest m.algorithm [] → HasHash tells s text
@@ -84,16 +85,16 @@ module _ (tells : Bool) (t : Tables) (m : MarkedSet) (sound : tells ≡ true →
       hash_from tells s [] refl (sym (ap (map outline) empty)) (λ u. sym (ap (map plain) empty)) text (is ∙ ap (λ a. digest a []) held.algorithm)
 
   -- with tiles
-  pub some_hashed : length marks ≢ 0 → (spots : List Spot) → AreSpots marks spots → (h : HashStream) (all : AreHashed tells t m.layout (in_hexadecimal m.algorithm) (marks_at marks spots) h) → (text : List ℕ)
+  pub some_hashed : length marks ≢ 0 → (spots : List Spot) → AreSpots marks spots → (h : HashStream) (all : AreHashed tells t (in_hexadecimal m.algorithm) (marks_at marks spots) h) → (text : List ℕ)
       → text ≡ digest (in_hexadecimal m.algorithm) (flat_map tile_text (tiles_with (marks_at marks spots) all.contents)) → HasHash tells s text
   some_hashed some spots are h all text is =
       let ms = marks_at marks spots in
       let fs : Pairs = tiles_with ms all.contents in
       let same = all_marks marks spots are in
       let sorted = places_rise ms all.contents low (ranks_rise marks spots are) (IsDistinct-IsPermutation (eq_by_cmp nat_cmp) (eq_by_cmp_equiv nat_cmp_total).symm (map (λ (k : Mark). k.id) marks) (map (λ (k : Mark). k.id) ms) (IsPermutation-map (λ (k : Mark). k.id) marks ms same) (marks_differ s.tiles marks held.marks ranged)) in
-      let long : length fs ≡ length marks = tiles_long tells t m.layout ms all.contents all.read ∙ length_permutation marks ms same in
-      hash_from tells s fs sorted (read_alike tells t m.layout s.tiles marks held.marks ranged ms same all.contents all.read fs (IsPermutation-refl fs) sorted)
-      (λ u. read_plain tells t m.layout s.tiles marks held.marks ranged ms same all.contents all.read fs (IsPermutation-refl fs) sorted u (stored u)) text
+      let long : length fs ≡ length marks = tiles_long tells t ms all.contents all.read ∙ length_permutation marks ms same in
+      hash_from tells s fs sorted (read_alike tells t s.tiles marks held.marks ranged ms same all.contents all.read fs (IsPermutation-refl fs) sorted)
+      (λ u. read_plain tells t s.tiles marks held.marks ranged ms same all.contents all.read fs (IsPermutation-refl fs) sorted u (stored u)) text
       (is ∙ sym (full_hash m.algorithm fs (λ z. some (sym long ∙ z))) ∙ ap (λ a. hash_of a fs) held.algorithm)
     where
       low : (k : Mark) → Has k (marks_at marks spots) → k.id ≤ MAX_TILE_ID

@@ -1,5 +1,6 @@
 -- Which contents and adds marks have.
-use Rattle.tile_streaming.proofs.Common.{add_for, adds_of, All, All-cons, All-nil, ap, AreRead, Bool, cons_option, Has, inl, inr, IsRead, List, map, Mark, MbtType, None, Option, refl, Some, subst, Tables, ℕ, [], ◌∷◌, ◌≡◌, ◌≢◌}
+use Rattle.tile_streaming.proofs.Common.{add_for, adds_of, All, All-cons, All-nil, ap, AreRead, Bool, cons_option, Has, inl, inr, IsRead, List, map, Mark, None, Option, refl, Some, subst, ℕ, [], ◌∷◌, ◌≡◌, ◌≢◌}
+use Rattle.tile_streaming.specs.Stored.{Stored}
 
 -- what holds of all that a list has
 pub all_of_has : {X : Type 0} (P : X → Type 0) (xs : List X) → ((x : X) → Has x xs → P x) → All P xs
@@ -19,11 +20,11 @@ has_source f y (x ∷ xs) (inr h) = let found = has_source f y xs h in (found.0,
 not_nil : (byte : ℕ) (bytes : List ℕ) → byte ∷ bytes ≢ []
 not_nil byte bytes e = absurd (cc)
 
-module _ (tells : Bool) (t : Tables) (layout : MbtType) where
+module _ (tells : Bool) (t : Stored) where
   -- the content of a mark, and its add
   pub record HasContent (marks : List Mark) (contents : List (List ℕ)) (m : Mark) : Type 0 where
     pub bytes : List ℕ
-    pub read : IsRead tells t layout m bytes
+    pub read : IsRead tells t m bytes
     pub add : bytes ≢ [] → Has (m.id, bytes) (adds_of marks contents)
 
   here_added : (m : Mark) (c : List ℕ) (rest : List (ℕ × List ℕ)) → c ≢ [] → Has (m.id, c) (cons_option (add_for m c) rest)
@@ -34,12 +35,12 @@ module _ (tells : Bool) (t : Tables) (layout : MbtType) where
   behind a None rest h = h
   behind a (Some x) rest h = inr h
 
-  pub content_of_mark : (marks : List Mark) (contents : List (List ℕ)) (m : Mark) → AreRead tells t layout marks contents → Has m marks → HasContent marks contents m
+  pub content_of_mark : (marks : List Mark) (contents : List (List ℕ)) (m : Mark) → AreRead tells t marks contents → Has m marks → HasContent marks contents m
   content_of_mark [] contents m r h = absurd h
   content_of_mark (n ∷ marks) [] m r h = absurd r
   content_of_mark (n ∷ marks) (c ∷ contents) m r (inl is) = record {
     bytes = c;
-    read = subst (λ k. IsRead tells t layout k c) is r.0;
+    read = subst (λ k. IsRead tells t k c) is r.0;
     add = λ some. subst (λ (k : Mark). Has (k.id, c) (cons_option (add_for n c) (adds_of marks contents))) is (here_added n c (adds_of marks contents) some);
   }
   content_of_mark (n ∷ marks) (c ∷ contents) m r (inr h) =
@@ -51,21 +52,21 @@ module _ (tells : Bool) (t : Tables) (layout : MbtType) where
     pub mark : Mark
     pub there : Has mark marks
     pub same : mark.id ≡ id
-    pub read : IsRead tells t layout mark bytes
+    pub read : IsRead tells t mark bytes
     pub some : bytes ≢ []
 
-  mark_here : (marks : List Mark) (n : Mark) (c : List ℕ) (rest : List (ℕ × List ℕ)) (id : ℕ) (bytes : List ℕ) → IsRead tells t layout n c → Has (id, bytes) (cons_option (add_for n c) rest) → (Has (id, bytes) rest → HasMark (n ∷ marks) id bytes) → HasMark (n ∷ marks) id bytes
+  mark_here : (marks : List Mark) (n : Mark) (c : List ℕ) (rest : List (ℕ × List ℕ)) (id : ℕ) (bytes : List ℕ) → IsRead tells t n c → Has (id, bytes) (cons_option (add_for n c) rest) → (Has (id, bytes) rest → HasMark (n ∷ marks) id bytes) → HasMark (n ∷ marks) id bytes
   mark_here marks n [] rest id bytes r h later = later h
   mark_here marks n (b ∷ c) rest id bytes r (inl is) later = record {
     mark = n;
     there = inl refl;
     same = ap (λ a. a.0) is;
-    read = subst (IsRead tells t layout n) (ap (λ a. a.1) is) r;
+    read = subst (IsRead tells t n) (ap (λ a. a.1) is) r;
     some = subst (λ k. k ≢ []) (ap (λ a. a.1) is) (not_nil b c);
   }
   mark_here marks n (b ∷ c) rest id bytes r (inr h) later = later h
 
-  pub mark_of_add : (marks : List Mark) (contents : List (List ℕ)) (id : ℕ) (bytes : List ℕ) → AreRead tells t layout marks contents → Has (id, bytes) (adds_of marks contents) → HasMark marks id bytes
+  pub mark_of_add : (marks : List Mark) (contents : List (List ℕ)) (id : ℕ) (bytes : List ℕ) → AreRead tells t marks contents → Has (id, bytes) (adds_of marks contents) → HasMark marks id bytes
   mark_of_add [] contents id bytes r h = absurd h
   mark_of_add (n ∷ marks) [] id bytes r h = absurd h
   mark_of_add (n ∷ marks) (c ∷ contents) id bytes r h = mark_here marks n c (adds_of marks contents) id bytes r.0 h (λ there. behind_mark (mark_of_add marks contents id bytes r.1 there))

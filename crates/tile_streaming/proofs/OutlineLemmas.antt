@@ -1,6 +1,6 @@
 -- The tiles of marks and contents, and the tiles that marks are of.
-use Rattle.tile_streaming.proofs.Common.{address, address_within, AllByRecursion, and_from, and_parts, ap, AreMarksOf, arith, Bool, bytes_of, bytes_told, entries, entries_sorted, Equal, eq_by_cmp, false, get_or, Greater, Has, has_back, inl, inr, is_lt, is_sorted, IsDistinct, IsNonDecreasingBy, IsPermutation, IsPermutation-map, IsPermutation-sym, IsPermutation-trans}
-use Rattle.tile_streaming.proofs.Common.{length, Less, List, map, Mark, mark_of, MAX_TILE_ID, MbtType, nat_cmp, nat_le, one_tie, Option, Ordering, Place, place_cmp, place_with, places_total, refl, same_Some, Some, sorted_true, subst, suc, sym, Tables, TileSet, true, zero, ℕ, [], ◌&&◌, ◌<◌, ◌^◌, ◌∙◌, ◌∷◌, ◌≡◌, ◌≢◌, ◌≤◌}
+use Rattle.tile_streaming.proofs.Common.{address, address_within, AllByRecursion, and_from, and_parts, ap, AreMarksOf, arith, Bool, bytes_of, entries, entries_sorted, Equal, eq_by_cmp, false, get_or, Greater, Has, has_back, inl, inr, is_lt, is_sorted, IsDistinct, IsNonDecreasingBy, IsPermutation, IsPermutation-map, IsPermutation-sym, IsPermutation-trans}
+use Rattle.tile_streaming.proofs.Common.{length, Less, List, map, Mark, mark_of, MAX_TILE_ID, nat_cmp, nat_le, one_tie, Option, Ordering, Place, place_cmp, place_with, places_total, refl, same_Some, Some, sorted_true, subst, suc, sym, TileSet, true, zero, ℕ, [], ◌&&◌, ◌<◌, ◌^◌, ◌∙◌, ◌∷◌, ◌≡◌, ◌≢◌, ◌≤◌}
 use Rattle.mb_store.proofs.RowsPut.{same_sorted}
 use Rattle.std.proofs.Common.{Contains, ◌%◌}
 use Rattle.std.proofs.lemmas.Cmp.{on_total}
@@ -16,6 +16,7 @@ use Rattle.tile_streaming.proofs.SizeLemmas.{small_is}
 use Rattle.tile_streaming.specs.Hashing.{AreReadAgain, IsReadAgain, outline, tiles_with}
 use Rattle.tile_streaming.specs.Marks.{mark_with}
 use Rattle.tile_streaming.specs.Spots.{rank}
+use Rattle.tile_streaming.specs.Stored.{Stored}
 
 -- a mark by its place
 abbrev placed : Mark → Place × Mark
@@ -44,15 +45,15 @@ AreOfTiles ms = (m : Mark) → Has m ms → IsOfTile m
 not_nil : (byte : ℕ) (bytes : List ℕ) → byte ∷ bytes ≢ []
 not_nil byte bytes e = absurd (cc)
 
-module _ (tells : Bool) (t : Tables) (layout : MbtType) where
-  mark_read : (m : Mark) (c : List ℕ) → IsReadAgain tells t layout m c → IsOfTile m → mark_of (place_with m.id, Some c) ≡ m
+module _ (tells : Bool) (t : Stored) where
+  mark_read : (m : Mark) (c : List ℕ) → IsReadAgain tells t m c → IsOfTile m → mark_of (place_with m.id, Some c) ≡ m
   mark_read m c r of = ap (λ i. mark_with i c) (place_has m.id of.low) ∙ by c refl
     where
       by : (d : List ℕ) → c ≡ d → mark_with m.id c ≡ m
       by [] e = let none = r.none e in ap (mark_with m.id) e ∙ of.none none.0 none.1
       by (b ∷ d) e = r.mark (λ z. not_nil b d (sym e ∙ z))
 
-  read_placed : (ms : List Mark) (cs : List (List ℕ)) → AreReadAgain tells t layout ms cs → AreOfTiles ms → map outline (tiles_with ms cs) ≡ map placed ms
+  read_placed : (ms : List Mark) (cs : List (List ℕ)) → AreReadAgain tells t ms cs → AreOfTiles ms → map outline (tiles_with ms cs) ≡ map placed ms
   read_placed [] [] r h = refl
   read_placed [] (c ∷ cs) r h = absurd r
   read_placed (m ∷ ms) [] r h = absurd r
@@ -66,10 +67,10 @@ module _ (tells : Bool) (t : Tables) (layout : MbtType) where
     pub mark : Mark
     pub bytes : List ℕ
     pub there : Has mark ms
-    pub read : IsReadAgain tells t layout mark bytes
+    pub read : IsReadAgain tells t mark bytes
     pub is : (place_with mark.id, Some bytes) ≡ f
 
-  pub has_read : (ms : List Mark) (cs : List (List ℕ)) (f : Place × Option (List ℕ)) → AreReadAgain tells t layout ms cs → Has f (tiles_with ms cs) → HasRead ms f
+  pub has_read : (ms : List Mark) (cs : List (List ℕ)) (f : Place × Option (List ℕ)) → AreReadAgain tells t ms cs → Has f (tiles_with ms cs) → HasRead ms f
   has_read [] [] f r h = absurd h
   has_read [] (c ∷ cs) f r h = absurd r
   has_read (m ∷ ms) [] f r h = absurd r
@@ -170,7 +171,7 @@ places_rise (m ∷ ms) (c ∷ cs) low h n =
     (places_rise ms cs (λ k there. low k (inr there)) (λ i j d order far. h (suc i) (suc j) d (omega (arith, order)) (omega (arith, far))) (IsDistinct-tail (eq_by_cmp nat_cmp) m.id (ids_of ms) n))
 
 -- what was read for the marks of tiles, in any order
-module _ (tells : Bool) (t : Tables) (layout : MbtType) (tiles : TileSet) (marks : List Mark) (are : AreMarksOf tiles marks) (ranged : AllRanged (entries tiles)) (ms : List Mark) (same : IsPermutation marks ms) (cs : List (List ℕ)) (read : AreReadAgain tells t layout ms cs) where
+module _ (tells : Bool) (t : Stored) (tiles : TileSet) (marks : List Mark) (are : AreMarksOf tiles marks) (ranged : AllRanged (entries tiles)) (ms : List Mark) (same : IsPermutation marks ms) (cs : List (List ℕ)) (read : AreReadAgain tells t ms cs) where
   abbrev es : Pairs
   es = entries tiles
 
@@ -192,7 +193,7 @@ module _ (tells : Bool) (t : Tables) (layout : MbtType) (tiles : TileSet) (marks
     outlines_same : IsPermutation (map outline fs) (map outline es)
     outlines_same =
         let ours = IsPermutation-sym (map outline (tiles_with ms cs)) (map outline fs) (IsPermutation-map outline (tiles_with ms cs) fs permuted) in
-        let marked = subst (λ l. IsPermutation l (map placed marks)) (sym (read_placed tells t layout ms cs read of_tiles)) (IsPermutation-sym (map placed marks) (map placed ms) (IsPermutation-map placed marks ms same)) in
+        let marked = subst (λ l. IsPermutation l (map placed marks)) (sym (read_placed tells t ms cs read of_tiles)) (IsPermutation-sym (map placed marks) (map placed ms) (IsPermutation-map placed marks ms same)) in
         let theirs = subst (λ l. IsPermutation (map placed marks) l) (marks_placed es ranged) (IsPermutation-sym (map placed (map mark_of es)) (map placed marks) (IsPermutation-map placed (map mark_of es) marks are.same)) in
         IsPermutation-trans (map outline fs) (map outline (tiles_with ms cs)) (map outline es) ours (IsPermutation-trans (map outline (tiles_with ms cs)) (map placed marks) (map outline es) marked theirs)
 
@@ -201,13 +202,13 @@ module _ (tells : Bool) (t : Tables) (layout : MbtType) (tiles : TileSet) (marks
     read_alike = same_outlines fs es sorted (sorted_true _ (entries_sorted tiles)) outlines_same
 
     -- and where the store tells, they have their bytes
-    pub read_plain : tells ≡ true → ((e : Place × Option (List ℕ)) → Has e es → bytes_told layout t (address e.0) ≡ Some (bytes_of e.1)) → map plain fs ≡ map plain es
-    read_plain told stored = same_plain (λ p. bytes_told layout t (address p)) fs es read_alike ours (λ e h some. stored e h)
+    pub read_plain : tells ≡ true → ((e : Place × Option (List ℕ)) → Has e es → t (address e.0) ≡ Some (bytes_of e.1)) → map plain fs ≡ map plain es
+    read_plain told stored = same_plain (λ p. t (address p)) fs es read_alike ours (λ e h some. stored e h)
       where
-        ours : AreBytes (λ p. bytes_told layout t (address p)) fs
+        ours : AreBytes (λ p. t (address p)) fs
         ours f h some =
-            let r = has_read tells t layout ms cs f read (has_back f (tiles_with ms cs) fs permuted h) in
+            let r = has_read tells t ms cs f read (has_back f (tiles_with ms cs) fs permuted h) in
             let place : place_with r.mark.id ≡ f.0 = ap (λ e. e.0) r.is in
             let bytes : r.bytes ≡ bytes_of f.1 = ap (λ e. bytes_of e.1) r.is in
             let id : address f.0 ≡ r.mark.id = ap address (sym place) ∙ place_has r.mark.id (of_tiles r.mark r.there).low in
-            ap (bytes_told layout t) id ∙ r.read.same (λ z. absurd (omega (arith, some, ap length (sym bytes ∙ z)))) told ∙ ap Some bytes
+            ap t id ∙ r.read.same (λ z. absurd (omega (arith, some, ap length (sym bytes ∙ z)))) told ∙ ap Some bytes

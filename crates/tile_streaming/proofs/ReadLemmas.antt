@@ -1,16 +1,17 @@
 -- Marks and what was read for them.
-use Rattle.tile_streaming.proofs.Common.{add_fits, add_for, AddFits, add_to, adds_of, AllSized, ap, AreFew, AreRead, arith, Bool, cons_option, false, HaveLengths, is_too_long, IsRead, length, length-append, List, list_any, list_any-append, Mark, MbtType, nat_le, nat_tests, None, Option, Options, overflow_of, refl, Some, subst, suc, sum_by, sum_by-append, sum_by-cons, sym, Tables, took_append, took_itself, TookAll, few_took, true, ℕ, [], ◌++◌, ◌+◌, ◌<◌, ◌^◌, ◌||◌, ◌∙◌, ◌∷◌, ◌≡◌, ◌≤◌}
+use Rattle.tile_streaming.proofs.Common.{add_fits, add_for, AddFits, add_to, adds_of, AllSized, ap, AreFew, AreRead, arith, Bool, cons_option, false, HaveLengths, is_too_long, IsRead, length, length-append, List, list_any, list_any-append, Mark, nat_le, nat_tests, None, Option, Options, overflow_of, refl, Some, subst, suc, sum_by, sum_by-append, sum_by-cons, sym, took_append, took_itself, TookAll, few_took, true, ℕ, [], ◌++◌, ◌+◌, ◌<◌, ◌^◌, ◌||◌, ◌∙◌, ◌∷◌, ◌≡◌, ◌≤◌}
+use Rattle.tile_streaming.specs.Stored.{Stored}
 
 -- the contents of marks have their lengths
-module _ (tells : Bool) (t : Tables) (layout : MbtType) where
-  pub lengths_read : (marks : List Mark) (contents : List (List ℕ)) → AreRead tells t layout marks contents → HaveLengths marks contents
+module _ (tells : Bool) (t : Stored) where
+  pub lengths_read : (marks : List Mark) (contents : List (List ℕ)) → AreRead tells t marks contents → HaveLengths marks contents
   lengths_read [] [] r = tt
   lengths_read [] (c ∷ contents) r = absurd r
   lengths_read (m ∷ marks) [] r = absurd r
   lengths_read (m ∷ marks) (c ∷ contents) r = (r.0.size, lengths_read marks contents r.1)
 
   -- one more mark
-  pub read_more : (marks : List Mark) (contents : List (List ℕ)) (m : Mark) (c : List ℕ) → AreRead tells t layout marks contents → IsRead tells t layout m c → AreRead tells t layout (marks ++ m ∷ []) (contents ++ c ∷ [])
+  pub read_more : (marks : List Mark) (contents : List (List ℕ)) (m : Mark) (c : List ℕ) → AreRead tells t marks contents → IsRead tells t m c → AreRead tells t (marks ++ m ∷ []) (contents ++ c ∷ [])
   read_more [] [] m c r one = (one, tt)
   read_more [] (d ∷ contents) m c r one = absurd r
   read_more (n ∷ marks) [] m c r one = absurd r

@@ -1,5 +1,5 @@
 -- Why steps of a conversion end.
-use Rattle.tile_streaming.proofs.Common.{AddsCauses, arith, Bool, Err, false, false≢true, FindCauses, fits, IsChanged, IsStored, Mark, MbtType, of_write_error, Ok, PmtError, refl, Result, StepCauses, StreamError, subst, sym, Tables, true, ℕ, ◌∙◌, ◌≡◌, ◌≤◌}
+use Rattle.tile_streaming.proofs.Common.{AddsCauses, arith, Bool, Err, false, false≢true, FindCauses, fits, IsChanged, Mark, of_write_error, Ok, PmtError, refl, Result, StepCauses, StreamError, subst, sym, true, ℕ, ◌∙◌, ◌≡◌, ◌≤◌}
 use Rattle.std.proofs.Common.{IsErrAnd}
 use Rattle.pm_format.specs.declared.compression.Compression.{Compression}
 use Rattle.pm_format.specs.declared.compression.Compression.TheVariants as compression
@@ -9,8 +9,8 @@ use Rattle.pm_writer.specs.Causes.{CreateCauses}
 use Rattle.tile_bridge.specs.Writing.{WriteCauses}
 use Rattle.tile_bridge.specs.declared.error.ConvertError.TheVariants as refused
 use Rattle.tile_streaming.specs.declared.error.StreamError.TheVariants.{Convert, StoreChanged}
-use Rattle.tile_streaming.specs.Finding.{bytes_told}
 use Rattle.std.specs.Prelude.{IfSome}
+use Rattle.tile_streaming.specs.Stored.{IsStored, Stored}
 
 -- a writer that isn't begun under the label `None`
 pub start_refused : (A B : Type 0) (label : Compression) (before now : ℕ) (e : PmtError) → label ≡ compression.None → CreateCauses {A = A} label before now (Err e) → AddsCauses {A = B} before now (Err (Convert (of_write_error e)))
@@ -54,9 +54,9 @@ step_within A B changed known s st sn m mt mn (Convert refused.OutOfMemory) more
 step_within A B changed known s st sn m mt mn (Convert _) more so mo c = absurd c
 
 -- no mark that is stored changes in a store that tells
-pub changed_untold : (tells tells_now : Bool) (t now : Tables) (layout : MbtType) (m : Mark) → tells_now ≡ tells → now ≡ t → (tells ≡ true → IsStored layout t m) → IsChanged tells_now now layout m → tells ≡ false
-changed_untold false tells_now t now layout m same told stored h = refl
-changed_untold true tells_now t now layout m same told stored h =
+pub changed_untold : (tells tells_now : Bool) (t now : Stored) (m : Mark) → tells_now ≡ tells → now ≡ t → (tells ≡ true → IsStored t m) → IsChanged tells_now now m → tells ≡ false
+changed_untold false tells_now t now m same told stored h = refl
+changed_untold true tells_now t now m same told stored h =
     let s = stored refl in
-    let here = subst (λ (x : Tables). IfSome (bytes_told layout x m.id) (λ bytes. fits m bytes ≡ false)) told (h same) in
+    let here = subst (λ (x : Stored). IfSome (x m.id) (λ bytes. fits m bytes ≡ false)) told (h same) in
     absurd (false≢true (sym (subst (λ o. IfSome o (λ bytes. fits m bytes ≡ false)) s.1 here) ∙ s.2))

@@ -1,6 +1,6 @@
 -- The contents that tables have for the tiles that they hold.
-use Rattle.tile_streaming.proofs.Common.{address, address_within, All, and_from, ap, AreMarksOf, arith, beq, Bool, bytes_of, bytes_told, Cell, cell_bytes, cond, cons_option, content_cell, contents_of, entries, entries_sorted, eq_by_cmp, false, false≢true, filter, find, FitsPlace, found, fresh, get, get-empty, get-entries, Has, has_find, has_key, InRange, is_gzip, is_normalized, is_some, IsLoadedFrom}
-use Rattle.tile_streaming.proofs.Common.{cell_at, content_rows, id_key, is_id, is_null, named_told, row_told, tile_told, IsSound, IsStored, length, List, loads, Mark, MbtType, nat_eq, nat_le, nat_tests, None, Ok, Option, option_map, Place, place_cmp, place_of, refl, row_bytes, Some, sorted_true, State, state_of, state_whole, subst, sym, Tables, tile_key, tile_of, tile_table, true, xxh3_64, ℕ, [], ◌^◌, ◌∙◌, ◌∷◌, ◌≡◌, ◌≤◌}
+use Rattle.tile_streaming.proofs.Common.{address, address_within, All, and_from, ap, AreMarksOf, arith, beq, Bool, bytes_of, bytes_told, Cell, cell_bytes, cond, cons_option, content_cell, contents_of, entries, entries_sorted, eq_by_cmp, false, false≢true, filter, find, find_has, FitsPlace, found, fresh, get, get-empty, get-entries, Has, has_find, has_key, InRange, is_gzip, is_normalized, is_some, IsLoadedFrom}
+use Rattle.tile_streaming.proofs.Common.{cell_at, content_rows, id_key, is_eq, is_id, is_null, named_told, row_told, tile_told, IsSound, length, List, loads, Mark, MbtType, nat_eq, nat_le, nat_tests, None, Ok, Option, option_map, Place, place_cmp, place_of, refl, row_bytes, same_place, Some, sorted_true, State, state_of, state_whole, subst, sym, Tables, tile_key, tile_of, tile_table, TileSet, true, xxh3_64, ℕ, [], ◌^◌, ◌∙◌, ◌∷◌, ◌≡◌, ◌≤◌}
 use Rattle.mb_constraints.specs.TileRows.{contents_in, id_in, tile_in}
 use Rattle.mb_load.specs.LoadedFrom.{at_place}
 use Rattle.mb_loaded.specs.Changing.{content_table}
@@ -20,6 +20,7 @@ use Rattle.std.specs.Prelude.{option_and_then, option_to_list}
 use Rattle.tile_streaming.proofs.KeyLemmas.{place_again}
 use Rattle.tile_streaming.proofs.MarkLemmas.{AllRanged, entry_of}
 use Rattle.tile_streaming.proofs.MemberLemmas.{all_of_has}
+use Rattle.tile_streaming.specs.Stored.{HasBytes, IsStored, Stored}
 
 -- what a cell of contents has
 cell_has : (cell : Cell) (c : Option (List ℕ)) → contents_of cell ≡ Some c → cell_bytes cell ≡ bytes_of c
@@ -202,18 +203,33 @@ same_answer : (b : Bool) → beq b b ≡ true
 same_answer true = refl
 same_answer false = refl
 
+-- the entry of a tile
+there_has : (tiles : TileSet) (e : Place × Option (List ℕ)) → Has e (entries tiles) → get tiles e.0 ≡ Some e.1
+there_has tiles e h = get-entries tiles e.0 ∙ has_find place_cmp places_total (entries tiles) e.0 e.1 (sorted_true _ (entries_sorted tiles)) h
+
 -- all places of a state that tables hold are in range
 pub state_ranged : (t : Tables) (s : State) → state_of t ≡ Ok s → AllRanged (entries s.tiles)
 state_ranged t s due e h =
-    let there : get s.tiles e.0 ≡ Some e.1 = get-entries s.tiles e.0 ∙ has_find place_cmp places_total (entries s.tiles) e.0 e.1 (sorted_true _ (entries_sorted s.tiles)) h in
+    let there = there_has s.tiles e h in
     let board = (state_whole t s due).0.on_board e.0 (ap is_some there) in
     record { zoom = omega (arith, board.zoom); column = board.column; row = board.row }
 
--- each mark of such tables is stored
-pub all_stored : (t : Tables) (layout : MbtType) (s : State) (marks : List Mark) → IsSound t → state_of t ≡ Ok s → layout ≡ s.layout → AreMarksOf s.tiles marks → All (IsStored layout t) marks
-all_stored t layout s marks sound due same are = all_of_has (IsStored layout t) marks (λ m h.
-    let e = entry_of s.tiles marks are m h in
-    let told = told_row t s sound due e.0 e.1 (state_ranged t s due e.0 e.1) in
+has_there : (tiles : TileSet) (p : Place) (c : Option (List ℕ)) → get tiles p ≡ Some c → Has (p, c) (entries tiles)
+has_there tiles p c h = find_has place_cmp (λ a b e. same_place a b (ap is_eq e)) (entries tiles) p c (sym (get-entries tiles p) ∙ h)
+
+-- the bytes that stand under the id of a tile's place
+pub bytes_there : (stored : Stored) (tiles : TileSet) → HasBytes stored tiles → (e : Place × Option (List ℕ)) → Has e (entries tiles) → stored (address e.0) ≡ Some (bytes_of e.1)
+bytes_there stored tiles has e h = has e.0 e.1 (there_has tiles e h)
+
+-- tables that load have the bytes of all tiles
+pub told_bytes : (t : Tables) (s : State) → IsSound t → state_of t ≡ Ok s → HasBytes (bytes_told s.layout t) s.tiles
+told_bytes t s sound due p c h = let there = has_there s.tiles p c h in told_row t s sound due (p, c) there (state_ranged t s due (p, c) there)
+
+-- each mark of tiles whose bytes are stored is stored
+pub all_stored : (stored : Stored) (tiles : TileSet) (marks : List Mark) → AreMarksOf tiles marks → HasBytes stored tiles → All (IsStored stored) marks
+all_stored stored tiles marks are has = all_of_has (IsStored stored) marks (λ m h.
+    let e = entry_of tiles marks are m h in
+    let told = bytes_there stored tiles has e.0 e.1 in
     let bytes = bytes_of e.0.1 in
     let sized = and_from _ _ (same_number (length bytes % 2 ^ 32)) (same_answer (nat_le (2 ^ 32) (length bytes))) in
-    subst (λ l. IsStored l t m) (sym same) (subst (λ m. IsStored s.layout t m) e.2 (bytes, told, and_from _ _ (and_from _ _ sized (same_number (xxh3_64 bytes))) (same_answer (is_gzip bytes)))))
+    subst (IsStored stored) e.2 (bytes, told, and_from _ _ (and_from _ _ sized (same_number (xxh3_64 bytes))) (same_answer (is_gzip bytes))))

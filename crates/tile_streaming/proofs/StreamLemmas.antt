@@ -1,6 +1,6 @@
 -- What a conversion of marks answers and leaves.
-use Rattle.tile_streaming.proofs.Common.{address, adds_of, All, ap, ArchivePlaces, AreAddsOf, AreRead, as_report, Bool, bytes_of, bytes_told, CanBeWritten, ConvertError, ConvertOptions, Coord, entries, Err, false, false≢true, HasWritten, HaveLengths, HidesRest, IfSome, inl, inr, is_some, IsDue, IsEmpty, IsHeldWith, IsHidden, IsMarkedAs, IsMarkedFrom, IsOfRead, IsPlain, IsSound, IsStored, length, List}
-use Rattle.tile_streaming.proofs.Common.{map, Mark, MarkedSet, None, Ok, Option, Options, OptionsFit, overflow_of, overflows, PmtError, refl, Result, Rose, RoseAt, SetLeaves, Some, State, state_of, StepCauses, StreamCauses, StreamEnds, StreamError, StreamLeaves, StreamReport, subst, sym, Tables, TileSet, true, WrittenLeaves, ℕ, [], ◌<◌, ◌^◌, ◌∙◌, ◌∷◌, ◌≡◌, ◌⊎◌}
+use Rattle.tile_streaming.proofs.Common.{adds_of, All, ap, ArchivePlaces, AreAddsOf, AreRead, as_report, Bool, CanBeWritten, ConvertError, ConvertOptions, Coord, entries, Err, false, false≢true, HasWritten, HasBytes, HaveLengths, HidesRest, IfSome, inl, inr, is_some, IsDue, IsEmpty, IsHeldOf, IsHeldWith, IsHidden, IsMarkedAs, IsOfRead, IsPlain, IsStored, length, List}
+use Rattle.tile_streaming.proofs.Common.{map, Mark, MarkedSet, None, Ok, Option, Options, OptionsFit, overflow_of, overflows, PmtError, refl, Result, Rose, RoseAt, SetLeaves, Some, State, StepCauses, Stored, StreamCauses, StreamEnds, StreamError, StreamLeaves, StreamReport, subst, sym, tested_due, TileSet, true, WrittenLeaves, ℕ, [], ◌<◌, ◌^◌, ◌∙◌, ◌∷◌, ◌≡◌, ◌⊎◌}
 unfoldable use Rattle.tile_streaming.proofs.Common.{archive}
 use Rattle.pm_format.specs.LookUp.{archive_map}
 use Rattle.pm_format.specs.declared.error.PmtError.TheVariants as errors
@@ -14,20 +14,16 @@ use Rattle.tile_bridge.specs.declared.error.ConvertError.TheVariants.{MediumFaul
 use Rattle.tile_ids.specs.Hilbert.{id_of}
 use Rattle.tile_streaming.specs.Hashing.{HasHash, IsHashOf, IsRight}
 use Rattle.tile_streaming.specs.declared.error.StreamError.TheVariants.{Convert, StoreChanged}
-use Rattle.tile_streaming.proofs.DueLemmas.{due_by, state_due}
-use Rattle.tile_streaming.proofs.MarkLemmas.{all_ranged, AllRanged, can_write}
+use Rattle.tile_streaming.proofs.DueLemmas.{state_due}
+use Rattle.tile_streaming.proofs.MarkLemmas.{all_ranged, AllRanged, can_write, ranged_all}
 use Rattle.tile_streaming.proofs.ReadLemmas.{lengths_read}
 use Rattle.tile_streaming.proofs.SizeLemmas.{overflow_same}
-use Rattle.tile_streaming.proofs.StoredLemmas.{all_stored, state_ranged, told_row}
+use Rattle.tile_streaming.proofs.StoredLemmas.{all_stored, bytes_there}
 use Rattle.tile_streaming.proofs.TileLemmas.{read_adds, read_marks, read_ranged, read_tiles, told_adds}
 
 -- the state of marks with other tiles
 abbrev with_tiles : State → TileSet → State
 with_tiles s tiles = record { layout = s.layout; algorithm = s.algorithm; patch_type = s.patch_type; tiles = tiles; metadata = s.metadata; ids = s.ids; contents = s.contents; dates = s.dates }
-
--- the state of marks is the one that a store which tells holds
-pub told_first : (tells : Bool) (t : Tables) (m : MarkedSet) (from : IsMarkedFrom tells t m) → tells ≡ true → state_of t ≡ Ok from.marked.state
-told_first tells t m from u = ap state_of (sym (from.are_told u)) ∙ from.marked.due
 
 -- which count rose at a step's fault
 pub store_rose : (A : Type 0) (tells : Bool) (s sn m mn : ℕ) (e : StreamError) (place : ℕ) → StepCauses {A = A} (tells ≡ false) s sn m mn (Err e) → e ≡ Convert (StoreFault place) → RoseAt place (s ∷ []) (sn ∷ [])
@@ -95,68 +91,72 @@ set_ends tells told (ReadBack e) c = c
 set_ends tells told OutOfMemory c = tt
 set_ends tells told _ c = absurd c
 
-module _ (tells : Bool) (t : Tables) (o : ConvertOptions) (w : Options) (m : MarkedSet) (from : IsMarkedFrom tells t m) (right : IsRight o.verify tells t) (sound : tells ≡ true → IsSound t) (size : overflow_of m.marks.items ≡ false) (fit : OptionsFit w) (metadata : length w.metadata < 2 ^ 63) where
+module _ (tells : Bool) (t : Stored) (o : ConvertOptions) (w : Options) (m : MarkedSet) (begun : Option (Result State ConvertError)) (from : IsHeldOf begun tells t m) (right : IsRight o.verify tells t m) (size : overflow_of m.marks.items ≡ false) (fit : OptionsFit w) (metadata : length w.metadata < 2 ^ 63) where
   abbrev due : Option (Result State ConvertError)
-  due = due_by tells t o
+  due = tested_due o.verify begun
 
   abbrev marks : List Mark
   marks = m.marks.items
 
   abbrev first : State
-  first = from.marked.state
-
-  told_state : tells ≡ true → state_of t ≡ Ok first
-  told_state = told_first tells t m from
+  first = from.state
 
   few : overflows first.tiles ≡ false
-  few = sym (overflow_same first.tiles marks from.marked.held.marks) ∙ size
+  few = sym (overflow_same first.tiles marks from.held.marks) ∙ size
 
   first_due : IsDue due first
-  first_due = state_due tells t o first (λ u. right u first (told_state u)) told_state few
+  first_due = state_due o.verify begun first from.is_due (λ b. let u = from.told b in right u first from.held (from.has u)) few
+
+  first_ranged : AllRanged (entries first.tiles)
+  first_ranged = ranged_all (entries first.tiles) from.held.ranged
 
   pub can : (contents : List (List ℕ)) → HaveLengths marks contents → CanBeWritten w (adds_of marks contents)
-  can contents lengths = can_write first.tiles marks from.marked.held.marks (state_ranged from.tables first from.marked.due) w fit metadata size contents lengths
+  can contents lengths = can_write first.tiles marks from.held.marks first_ranged w fit metadata size contents lengths
 
-  pub stored_all : tells ≡ true → All (IsStored m.layout t) marks
-  stored_all u = all_stored t m.layout first marks (sound u) (told_state u) from.marked.held.layout from.marked.held.marks
+  pub stored_all : tells ≡ true → All (IsStored t) marks
+  stored_all u = all_stored t first.tiles marks from.held.marks (from.has u)
 
   -- the state whose tiles were read
   record StateOfRead (contents : List (List ℕ)) : Type 0 where
     pub state : State
     pub is_due : IsDue due state
     pub held : IsMarkedAs state m
-    pub told : tells ≡ true → state_of t ≡ Ok state
+    pub has : tells ≡ true → HasBytes t state.tiles
     pub adds : AreAddsOf (adds_of marks contents) state.tiles
 
-  state_for : (contents : List (List ℕ)) → AreRead tells t m.layout marks contents → StateOfRead contents
+  -- nothing is due of a store that tells nothing
+  none_due : tells ≡ false → (s : State) → IsDue due s
+  none_due u s = by begun from.told
+    where
+      by : (b : Option (Result State ConvertError)) → (is_some b ≡ true → tells ≡ true) → IsDue (tested_due o.verify b) s
+      by None told = tt
+      by (Some d) told = absurd (false≢true (sym u ∙ told refl))
+
+  state_for : (contents : List (List ℕ)) → AreRead tells t marks contents → StateOfRead contents
   state_for contents read = by tells refl
     where
-      ranged : AllRanged (entries first.tiles)
-      ranged = state_ranged from.tables first from.marked.due
-
       by : (b : Bool) → tells ≡ b → StateOfRead contents
       by true u = record {
         state = first;
         is_due = first_due;
-        held = from.marked.held;
-        told = told_state;
-        adds = told_adds tells t m.layout first.tiles marks from.marked.held.marks ranged size contents read u
-            (λ e h. subst (λ l. bytes_told l t (address e.0) ≡ Some (bytes_of e.1)) (sym from.marked.held.layout) (told_row t first (sound u) (told_state u) e h (ranged e h)));
+        held = from.held;
+        has = from.has;
+        adds = told_adds tells t first.tiles marks from.held.marks first_ranged size contents read u (bytes_there t first.tiles (from.has u));
       }
       by false u =
-          let tiles = read_tiles tells t m.layout first.tiles marks from.marked.held.marks ranged size contents read in
+          let tiles = read_tiles tells t first.tiles marks from.held.marks first_ranged size contents read in
           record {
             state = with_tiles first tiles;
-            is_due = subst (λ b. IsDue (due_by b t o) (with_tiles first tiles)) (sym u) tt;
+            is_due = none_due u (with_tiles first tiles);
             held = record {
-              layout = from.marked.held.layout;
-              algorithm = from.marked.held.algorithm;
-              names = from.marked.held.names;
-              ranged = all_ranged (entries tiles) (read_ranged tells t m.layout first.tiles marks from.marked.held.marks ranged size contents read);
-              marks = read_marks tells t m.layout first.tiles marks from.marked.held.marks ranged size contents read;
+              layout = from.held.layout;
+              algorithm = from.held.algorithm;
+              names = from.held.names;
+              ranged = all_ranged (entries tiles) (read_ranged tells t first.tiles marks from.held.marks first_ranged size contents read);
+              marks = read_marks tells t first.tiles marks from.held.marks first_ranged size contents read;
             };
-            told = λ v. absurd (false≢true (sym u ∙ v));
-            adds = read_adds tells t m.layout first.tiles marks from.marked.held.marks ranged size contents read;
+            has = λ v. absurd (false≢true (sym u ∙ v));
+            adds = read_adds tells t first.tiles marks from.held.marks first_ranged size contents read;
           }
 
   module _ (coords : List Coord) (old new : Option (List ℕ)) (empty : IsEmpty old) (same : is_some new ≡ is_some old) where
@@ -179,20 +179,20 @@ module _ (tells : Bool) (t : Tables) (o : ConvertOptions) (w : Options) (m : Mar
 
     -- the archive wasn't written, or not wholly
     left_hidden : (e : StreamError) → StreamEnds tells old (Err e) → HidesRest new (Err e) → IfSome new IsHidden → LeavesAll (Err e)
-    left_hidden e ended hides h = of_error first e from.marked.held first_due ended hides (hidden_leaves new same h)
+    left_hidden e ended hides h = of_error first e from.held first_due ended hides (hidden_leaves new same h)
 
-    left_part : (e : StreamError) → StreamEnds tells old (Err e) → HidesRest new (Err e) → IfSome new (λ b. IsHidden b ⊎ IsOfRead w tells t m.layout marks b) → LeavesAll (Err e)
+    left_part : (e : StreamError) → StreamEnds tells old (Err e) → HidesRest new (Err e) → IfSome new (λ b. IsHidden b ⊎ IsOfRead w tells t marks b) → LeavesAll (Err e)
     left_part e ended hides h = by new refl h
       where
-        by : (told : Option (List ℕ)) → new ≡ told → IfSome told (λ b. IsHidden b ⊎ IsOfRead w tells t m.layout marks b) → LeavesAll (Err e)
+        by : (told : Option (List ℕ)) → new ≡ told → IfSome told (λ b. IsHidden b ⊎ IsOfRead w tells t marks b) → LeavesAll (Err e)
         by None is h = left_hidden e ended hides (subst (λ x. IfSome x IsHidden) (sym is) tt)
         by (Some b) is (inl hidden) = left_hidden e ended hides (subst (λ x. IfSome x IsHidden) (sym is) hidden)
         by (Some b) is (inr r) =
             let s = state_for r.contents r.read in
             let adds = adds_of marks r.contents in
-            of_error s.state e s.held s.is_due ended hides (λ x. leaves_whole w adds (can r.contents (lengths_read tells t m.layout marks r.contents r.read)) s.state.tiles coords x old new s.adds same (subst (λ x. IfSome x (λ b. b ≡ archive w adds)) (sym is) r.whole))
+            of_error s.state e s.held s.is_due ended hides (λ x. leaves_whole w adds (can r.contents (lengths_read tells t marks r.contents r.read)) s.state.tiles coords x old new s.adds same (subst (λ x. IfSome x (λ b. b ≡ archive w adds)) (sym is) r.whole))
 
-    pub part_left : (e : StreamError) → StreamEnds tells old (Err e) → WrittenLeaves w tells t m.layout marks old new (Err e) → LeavesAll (Err e)
+    pub part_left : (e : StreamError) → StreamEnds tells old (Err e) → WrittenLeaves w tells t marks old new (Err e) → LeavesAll (Err e)
     part_left StoreChanged ended h = left_hidden StoreChanged ended h h
     part_left (Convert (StoreFault place)) ended h = left_hidden (Convert (StoreFault place)) ended h h
     part_left (Convert MediumFault) ended h = left_part (Convert MediumFault) ended tt h
@@ -201,12 +201,12 @@ module _ (tells : Bool) (t : Tables) (o : ConvertOptions) (w : Options) (m : Mar
     part_left (Convert _) ended h = absurd ended
 
     -- the archive was written
-    module _ (p : ArchivePlaces) (h : HasWritten w tells t m.layout marks old new p) where
+    module _ (p : ArchivePlaces) (h : HasWritten w tells t marks old new p) where
       abbrev adds : List (ℕ × List ℕ)
       adds = adds_of marks h.contents
 
       written : CanBeWritten w adds
-      written = can h.contents (lengths_read tells t m.layout marks h.contents h.read)
+      written = can h.contents (lengths_read tells t marks h.contents h.read)
 
       state : StateOfRead h.contents
       state = state_for h.contents h.read
@@ -214,7 +214,7 @@ module _ (tells : Bool) (t : Tables) (o : ConvertOptions) (w : Options) (m : Mar
       -- and read
       hash_held : (hash : Option (List ℕ)) → IfSome hash (IsHashOf tells t m) → IfSome hash (HasHash tells state.state)
       hash_held None is = tt
-      hash_held (Some text) is = is state.state state.held state.told
+      hash_held (Some text) is = is state.state state.held state.has
 
       pub whole_left : (r : StreamReport) → r.places ≡ p → IfSome r.aggregate (IsHashOf tells t m) → IfSome new (λ b. (q : Options) → WellFormed b q true → r.answers ≡ map (λ c. archive_map b (id_of c)) coords) → LeavesAll (Ok r)
       whole_left r places hash read = inr (record {

@@ -1,12 +1,13 @@
 -- The tiles that adds of marks are of.
-use Rattle.tile_streaming.proofs.Common.{address, adds_of, ap, AreAddsOf, AreMarksOf, AreRead, arith, Bool, bytes_of, bytes_told, cond, content_at, entries, entries_sorted, false, find_has, get, get-entries, Has, has_find, InRange, inl, inr, is_eq, is_lt, is_solid, is_sorted, IsPermutation, IsRead, length, List, map, Mark, mark_of, MbtType}
-use Rattle.tile_streaming.proofs.Common.{nat_cmp, nat_cmp-IsAntisymmetric, nat_cmp_total, nat_le, None, Option, overflow_of, Place, place_cmp, refl, same_place, solid, Some, sorted_true, subst, sym, T, Tables, TileSet, true, ℕ, [], ◌%◌, ◌&&◌, ◌<◌, ◌^◌, ◌∙◌, ◌∷◌, ◌≡◌, ◌≢◌}
+use Rattle.tile_streaming.proofs.Common.{address, adds_of, ap, AreAddsOf, AreMarksOf, AreRead, arith, Bool, bytes_of, cond, content_at, entries, entries_sorted, false, find_has, get, get-entries, Has, has_find, InRange, inl, inr, is_eq, is_lt, is_solid, is_sorted, IsPermutation, IsRead, length, List, map, Mark, mark_of}
+use Rattle.tile_streaming.proofs.Common.{nat_cmp, nat_cmp-IsAntisymmetric, nat_cmp_total, nat_le, None, Option, overflow_of, Place, place_cmp, refl, same_place, solid, Some, sorted_true, subst, sym, T, TileSet, true, ℕ, [], ◌%◌, ◌&&◌, ◌<◌, ◌^◌, ◌∙◌, ◌∷◌, ◌≡◌, ◌≢◌}
 use Rattle.mb_tables.proofs.TileLemmas.{places_total, get-solid}
 use Rattle.std.specs.FinMap.{entries-from_sorted, find, from_sorted}
 use Rattle.std.specs.declared.cmp.Ordering.TheVariants.{Equal}
 use Rattle.tile_streaming.proofs.MarkLemmas.{adds_filled, adds_low, AllRanged, below_all, entry_of, mark_there, marks_rise, short_tile}
 use Rattle.tile_streaming.proofs.SizeLemmas.{small_is}
 use Rattle.tile_streaming.proofs.MemberLemmas.{content_of_mark, has_mapped, has_source, mark_of_add}
+use Rattle.tile_streaming.specs.Stored.{Stored}
 
 abbrev Tile : Type 0
 Tile = Place × Option (List ℕ)
@@ -34,7 +35,7 @@ no_bytes : (bytes : List ℕ) → length bytes ≡ 0 → bytes ≡ []
 no_bytes [] h = refl
 no_bytes (b ∷ bytes) h = absurd (omega (arith, h))
 
-module _ (tells : Bool) (t : Tables) (layout : MbtType) (tiles : TileSet) (marks : List Mark) (are : AreMarksOf tiles marks) (ranged : AllRanged (entries tiles)) (size : overflow_of marks ≡ false) (contents : List (List ℕ)) (read : AreRead tells t layout marks contents) where
+module _ (tells : Bool) (t : Stored) (tiles : TileSet) (marks : List Mark) (are : AreMarksOf tiles marks) (ranged : AllRanged (entries tiles)) (size : overflow_of marks ≡ false) (contents : List (List ℕ)) (read : AreRead tells t marks contents) where
   abbrev adds : List (ℕ × List ℕ)
   adds = adds_of marks contents
 
@@ -46,8 +47,8 @@ module _ (tells : Bool) (t : Tables) (layout : MbtType) (tiles : TileSet) (marks
   tied a b e = same_place a b (ap is_eq e)
 
   -- where the store tells, what was read are the tiles
-  module _ (told : tells ≡ true) (stored : (e : Place × Option (List ℕ)) → Has e (entries tiles) → bytes_told layout t (address e.0) ≡ Some (bytes_of e.1)) where
-    same_bytes : (e : Place × Option (List ℕ)) (bytes : List ℕ) → Has e (entries tiles) → IsRead tells t layout (mark_of e) bytes → bytes ≡ bytes_of e.1
+  module _ (told : tells ≡ true) (stored : (e : Place × Option (List ℕ)) → Has e (entries tiles) → t (address e.0) ≡ Some (bytes_of e.1)) where
+    same_bytes : (e : Place × Option (List ℕ)) (bytes : List ℕ) → Has e (entries tiles) → IsRead tells t (mark_of e) bytes → bytes ≡ bytes_of e.1
     same_bytes e bytes h r = by (bytes_of e.1) refl
       where
         same : Some bytes ≡ Some (bytes_of e.1) → bytes ≡ bytes_of e.1
@@ -62,16 +63,16 @@ module _ (tells : Bool) (t : Tables) (layout : MbtType) (tiles : TileSet) (marks
         let there = to_solid (get tiles p) bytes (sym (get-solid tiles p) ∙ h) in
         let e : Place × Option (List ℕ) = (p, Some bytes) in
         let place : Has e (entries tiles) = find_has place_cmp tied (entries tiles) p (Some bytes) (sym (get-entries tiles p) ∙ there.0) in
-        let c = content_of_mark tells t layout marks contents (mark_of e) read (mark_there tiles marks are e place) in
+        let c = content_of_mark tells t marks contents (mark_of e) read (mark_there tiles marks are e place) in
         let same : c.bytes ≡ bytes = same_bytes e c.bytes place c.read in
         has_find nat_cmp nat_cmp_total adds (address p) bytes (marks_rise tiles marks are ranged contents) (subst (λ b. Has (address p, b) adds) same (c.add (λ none. there.1 (sym same ∙ none))))
 
     only_told : (id : ℕ) (bytes : List ℕ) → content_at adds id ≡ Some bytes → (p : Place) × (get (solid tiles) p ≡ Some (Some bytes)) × (address p ≡ id)
     only_told id bytes h =
         let there : Has (id, bytes) adds = find_has nat_cmp nat_cmp-IsAntisymmetric adds id bytes h in
-        let m = mark_of_add tells t layout marks contents id bytes read there in
+        let m = mark_of_add tells t marks contents id bytes read there in
         let e = entry_of tiles marks are m.mark m.there in
-        let same : bytes ≡ bytes_of e.0.1 = same_bytes e.0 bytes e.1 (subst (λ (k : Mark). IsRead tells t layout k bytes) (sym e.2) m.read) in
+        let same : bytes ≡ bytes_of e.0.1 = same_bytes e.0 bytes e.1 (subst (λ (k : Mark). IsRead tells t k bytes) (sym e.2) m.read) in
         let whole : e.0.1 ≡ Some bytes = some_bytes e.0.1 bytes same m.some in
         let found : get tiles e.0.0 ≡ Some e.0.1 = get-entries tiles e.0.0 ∙ has_find place_cmp places_total (entries tiles) e.0.0 e.0.1 (sorted_true _ (entries_sorted tiles)) e.1 in
         (e.0.0, get-solid tiles e.0.0 ∙ from_solid (get tiles e.0.0) bytes (found ∙ ap Some whole) m.some, ap (λ (k : Mark). k.id) e.2 ∙ m.same)
@@ -95,12 +96,12 @@ module _ (tells : Bool) (t : Tables) (layout : MbtType) (tiles : TileSet) (marks
   -- what was read of a tile of at least one byte
   record IsReadOf (e : Tile) : Type 0 where
     pub bytes : List ℕ
-    pub was : IsRead tells t layout (mark_of e) bytes
+    pub was : IsRead tells t (mark_of e) bytes
     pub found : content_at adds (address e.0) ≡ Some bytes
 
   read_of : (e : Tile) → Has e (entries tiles) → 0 < length (bytes_of e.1) → IsReadOf e
   read_of e h some =
-      let c = content_of_mark tells t layout marks contents (mark_of e) read (mark_there tiles marks are e h) in
+      let c = content_of_mark tells t marks contents (mark_of e) read (mark_there tiles marks are e h) in
       let filled : c.bytes ≢ [] = λ none. absurd (omega (arith, some, held e h, c.read.size, ap length none)) in
       record {
         bytes = c.bytes;
@@ -174,7 +175,7 @@ module _ (tells : Bool) (t : Tables) (layout : MbtType) (tiles : TileSet) (marks
   only_read : (id : ℕ) (bytes : List ℕ) → content_at adds id ≡ Some bytes → (p : Place) × (get (solid read_tiles) p ≡ Some (Some bytes)) × (address p ≡ id)
   only_read id bytes h =
       let there : Has (id, bytes) adds = find_has nat_cmp nat_cmp-IsAntisymmetric adds id bytes h in
-      let m = mark_of_add tells t layout marks contents id bytes read there in
+      let m = mark_of_add tells t marks contents id bytes read there in
       let e = entry_of tiles marks are m.mark m.there in
       let same : address e.0.0 ≡ id = ap (λ (k : Mark). k.id) e.2 ∙ m.same in
       let long : length bytes ≡ length (bytes_of e.0.1) = m.read.size ∙ (sym (ap (λ (k : Mark). k.length) e.2) ∙ held e.0 e.1) in

@@ -1,22 +1,22 @@
 -- Marks whose contents are read again and added to an archive.
 use Rattle.std.specs.Prelude.{ℕ, ◌≡◌, ◌<◌, Bool, true, List, [], ◌∷◌, length, Option, Some, None}
-use Rattle.tile_streaming.specs.Common.{add_to, cons_option, is_gzip, MbtType, Options, Tables, Took, TookAll, Writes, WriterState, xxh3_64}
-use Rattle.tile_streaming.specs.Finding.{bytes_told}
+use Rattle.tile_streaming.specs.Common.{add_to, cons_option, is_gzip, Options, Took, TookAll, Writes, WriterState, xxh3_64}
+use Rattle.tile_streaming.specs.Stored.{Stored}
 use Rattle.tile_streaming.specs.declared.mark.Mark.{Mark}
 
 -- What was read for a mark: bytes of its length, and unless they are none, of its digest, and with its beginning; then
--- a store that tells has them there.
-pub record IsRead (tells : Bool) (told : Tables) (layout : MbtType) (m : Mark) (bytes : List ℕ) : Type 0 where
+-- they are stored, where that is told.
+pub record IsRead (tells : Bool) (stored : Stored) (m : Mark) (bytes : List ℕ) : Type 0 where
   pub size : length bytes ≡ m.length
   pub digest : 0 < m.length → xxh3_64 bytes ≡ m.digest
   pub gzip : 0 < m.length → is_gzip bytes ≡ m.gzip
-  pub same : 0 < m.length → tells ≡ true → bytes_told layout told m.id ≡ Some bytes
+  pub same : 0 < m.length → tells ≡ true → stored m.id ≡ Some bytes
 
 -- what was read for each of the marks
-abbrev pub AreRead : Bool → Tables → MbtType → List Mark → List (List ℕ) → Type 0
-AreRead tells told layout [] [] = Unit {0}
-AreRead tells told layout (m ∷ marks) (bytes ∷ contents) = IsRead tells told layout m bytes × AreRead tells told layout marks contents
-AreRead tells told layout _ _ = ⊥
+abbrev pub AreRead : Bool → Stored → List Mark → List (List ℕ) → Type 0
+AreRead tells stored [] [] = Unit {0}
+AreRead tells stored (m ∷ marks) (bytes ∷ contents) = IsRead tells stored m bytes × AreRead tells stored marks contents
+AreRead tells stored _ _ = ⊥
 
 -- the contents have the lengths of the marks
 abbrev pub HaveLengths : List Mark → List (List ℕ) → Type 0
@@ -40,15 +40,15 @@ pub record IsTaken (o : Options) (adds : List (ℕ × List ℕ)) (id : ℕ) (byt
   pub writes : Writes o new state (add_to adds id taken)
 
 -- the contents of one mark were read and added
-pub record IsAddedFor (o : Options) (adds : List (ℕ × List ℕ)) (tells : Bool) (tables : Tables) (layout : MbtType) (m : Mark) (old new : Option (List ℕ)) (state : WriterState) : Type 0 where
+pub record IsAddedFor (o : Options) (adds : List (ℕ × List ℕ)) (tells : Bool) (stored : Stored) (m : Mark) (old new : Option (List ℕ)) (state : WriterState) : Type 0 where
   pub bytes : List ℕ
-  pub read : IsRead tells tables layout m bytes
+  pub read : IsRead tells stored m bytes
   pub added : IsTaken o adds m.id bytes old new state
 
 -- The contents of marks were read and added: the writer means what they were taken for.
-pub record AreAdded (o : Options) (tells : Bool) (tables : Tables) (layout : MbtType) (marks : List Mark) (old new : Option (List ℕ)) (state : WriterState) : Type 0 where
+pub record AreAdded (o : Options) (tells : Bool) (stored : Stored) (marks : List Mark) (old new : Option (List ℕ)) (state : WriterState) : Type 0 where
   pub contents : List (List ℕ)
-  pub read : AreRead tells tables layout marks contents
+  pub read : AreRead tells stored marks contents
   pub taken : List (ℕ × List ℕ)
   pub took : TookAll old (adds_of marks contents) taken
   pub writes : Writes o new state taken

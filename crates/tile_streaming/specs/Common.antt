@@ -48,7 +48,7 @@ pub use Rattle.set_options.specs.Facts.{facts_of, is_gzip, no_facts, with_filled
 pub use Rattle.set_options.specs.declared.facts.TileFacts.{TileFacts}
 pub use Rattle.std.specs.FinMap.{contains_key, entries, from_entries, get}
 pub use Rattle.std.specs.List.{cons_option, list_all, list_any}
-pub use Rattle.std.specs.Option.{option_copied, option_map, option_or}
+pub use Rattle.std.specs.Option.{option_copied, option_map, option_map_or, option_or}
 pub use Rattle.std.specs.Ordering.{nat_cmp}
 pub use Rattle.tile_bridge.specs.Adds.{cell_bytes}
 pub use Rattle.tile_bridge.specs.Convert.{ConvertCauses, HasPlaces, IsEmpty, IsPlain, SetLeaves}

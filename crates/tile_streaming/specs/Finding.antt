@@ -43,7 +43,3 @@ has_size m n = nat_eq (n % 2 ^ 32) m.length && beq (nat_le (2 ^ 32) n) m.is_long
 -- whether bytes have the length and the digest of a mark, and begin as gzip begins where it says so
 abbrev pub fits : Mark → List ℕ → Bool
 fits m bytes = (has_size m (length bytes) && nat_eq (xxh3_64 bytes) m.digest) && beq (is_gzip bytes) m.gzip
-
--- tables have such bytes for a mark
-abbrev pub IsStored : MbtType → Tables → Mark → Type 0
-IsStored layout t m = (bytes : List ℕ) × (bytes_told layout t m.id ≡ Some bytes) × (fits m bytes ≡ true)

@@ -13,4 +13,6 @@ pub mod RowMarks
 pub mod RowTests
 pub mod Seen
 pub mod Overlaid
+pub mod PatchedSet
+pub mod Patching
 pub mod Stored

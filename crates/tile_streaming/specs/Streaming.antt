@@ -1,10 +1,12 @@
 -- What a conversion that holds no contents answers, and what it leaves.
-use Rattle.std.specs.Prelude.{ℕ, ◌≡◌, ◌≢◌, ◌<◌, ◌⊎◌, Bool, true, false, List, [], length, Option, None, Result, Ok, Err, OnOk, IfOk, IfSome, unwrap_or}
-use Rattle.tile_streaming.specs.Common.{ConvertCauses, ConvertError, ConvertOptions, ConvertReport, Coord, due, HasPlaces, IsDue, IsEmpty, IsHidden, IsPlain, IsReadBack, Options, Rose, SetLeaves, State, Tables}
+use Rattle.std.specs.Prelude.{ℕ, ◌≡◌, ◌≢◌, ◌<◌, ◌⊎◌, ◌&&◌, Bool, true, false, cond, is_some, List, [], length, map, Option, None, Some, Result, Ok, Err, OnOk, IfOk, IfSome, unwrap_or}
+use Rattle.tile_streaming.specs.Common.{ConvertCauses, ConvertError, ConvertOptions, ConvertReport, Coord, due, HasPlaces, IsDue, IsEmpty, IsHidden, IsPlain, IsReadBack, list_all, option_map, Options, Rose, SetLeaves, State, state_of, Tables}
+use Rattle.tile_bridge.specs.Outcome.{all_patched, at_place, tested, then}
 use Rattle.tile_bridge.specs.declared.error.ConvertError.TheVariants.{MediumFault, MediumNotEmpty, OutOfMemory, ReadBack, StoreFault, UnsupportedCompression}
 use Rattle.pm_format.specs.declared.compression.Compression.TheVariants as compression
 use Rattle.tile_streaming.specs.Hashing.{HasHash}
-use Rattle.tile_streaming.specs.Marks.{IsMarkedAs, IsMarkedSet}
+use Rattle.tile_streaming.specs.Marks.{IsMarkedAs}
+use Rattle.tile_streaming.specs.Stored.{HasBytes, Stored}
 use Rattle.tile_streaming.specs.declared.error.StreamError.{StreamError}
 use Rattle.tile_streaming.specs.declared.error.StreamError.TheVariants.{Convert, StoreChanged}
 use Rattle.tile_streaming.specs.declared.mark.MarkedSet.{MarkedSet}
@@ -75,12 +77,26 @@ StreamLeaves gives due tells coords result old new = IsUnwritten result old new 
 abbrev pub IsHeldWith : MarkedSet → Options → State → Options → Type 0
 IsHeldWith m w state options = IsMarkedAs state m × (options ≡ w)
 
--- the marks are those of tables that the store tells, or where it tells nothing of some tables
--- that its answers could be of
-pub record IsMarkedFrom (tells : Bool) (told : Tables) (m : MarkedSet) : Type 0 where
-  pub tables : Tables
-  pub are_told : tells ≡ true → tables ≡ told
-  pub marked : IsMarkedSet tables m
+-- what is due of a set with what is due once it was tested
+abbrev pub tested_due : Bool → Option (Result State ConvertError) → Option (Result State ConvertError)
+tested_due verify begun = option_map (λ r. then r (tested verify)) begun
+
+-- what is due of a base and its patches before the tests of the set that is converted, where all of them tell
+abbrev pub begun_due : {S P : Type 0} → (S → Bool) → (S → Tables) → (P → Bool) → (P → Tables) → S → List P → Bool → Option (Result State ConvertError)
+begun_due tells told patch_tells patch_told base patches force = cond (tells base && list_all patch_tells patches) (Some (then (at_place 0 (state_of (told base))) (λ s. all_patched force 1 s (map patch_told patches)))) None
+
+-- The marks are those of the tiles of a state: the one that is due, where all stores tell. The bytes of its tiles are
+-- stored, where that is told.
+pub record IsHeldOf (begun : Option (Result State ConvertError)) (tells : Bool) (stored : Stored) (m : MarkedSet) : Type 0 where
+  pub state : State
+  pub is_due : IsDue begun state
+  pub told : is_some begun ≡ true → tells ≡ true
+  pub held : IsMarkedAs state m
+  pub has : tells ≡ true → HasBytes stored state.tiles
+
+-- the marks are those of some state
+abbrev pub IsHeld : Bool → Stored → MarkedSet → Type 0
+IsHeld tells stored m = IsHeldOf None tells stored m
 
 -- what is tested of the medium and of the label of directories
 abbrev pub TestCauses : {A : Type 0} → Options → Option (List ℕ) → ℕ → ℕ → Result A ConvertError → Type 0

@@ -1,15 +1,17 @@
 // The conversion of a set of which marks are held, and one content at a time.
-ghost use Rattle.std.specs.Prelude.{◌≡◌, ◌+◌, ◌∷◌, ◌||◌, [], ℕ, false, is_some, IfOk, IfSome, IsErrOf, OnOk, unwrap_or};
-ghost use Rattle.tile_streaming.specs.Common.{answered, GrewFrom, IsEmpty, IsPlain, KeepsMedium, ReadsOnly, Rose, RoseAt};
+ghost use Rattle.std.specs.Prelude.{◌≡◌, ◌+◌, ◌∷◌, ◌||◌, [], ℕ, false, is_some, IfOk, IfSome, IsErrOf, OnOk, Option, Result, unwrap_or};
+ghost use Rattle.tile_streaming.specs.Common.{answered, ConvertError, GrewFrom, IsEmpty, IsPlain, KeepsMedium, ReadsOnly, Rose, RoseAt, State};
 ghost use Rattle.tile_streaming.specs.Hashing.{IsHashOf, IsRight};
+ghost use Rattle.tile_streaming.specs.PatchedSet.{stored_in};
 ghost use Rattle.tile_streaming.specs.Sizing.{overflow_of};
-ghost use Rattle.tile_streaming.specs.Streaming.{due_of, IsHeldWith, IsMarkedFrom, StreamCauses, StreamLeaves};
+ghost use Rattle.tile_streaming.specs.Streaming.{IsHeld, IsHeldOf, IsHeldWith, StreamCauses, StreamLeaves, tested_due};
 
 use crate::error::of_reader;
+use crate::patched_set::PatchedSet;
 use crate::sizing::mark_overflows;
 use crate::verifying::hash_for;
 use crate::writing::write_marked;
-use crate::{MarkedSet, StreamError, StreamOptions, StreamReport};
+use crate::{StreamError, StreamOptions, StreamReport};
 use base_values::TextVal;
 use mb_store::TileStore;
 use pm_format::Medium;
@@ -22,24 +24,30 @@ use tile_ids::TileCoord;
 fn convert_held<S: TileStore, M: Medium>(
     alloc: Global,
     base: &mut S,
-    set: &MarkedSet,
+    set: &PatchedSet,
     coords: &[TileCoord],
     asked: &ConvertOptions,
     writer: &PmTilesWriter,
     aggregate: Option<TextVal>,
     medium: &mut M,
 ) -> Result<StreamReport, StreamError>
-    requires marked { IsMarkedFrom (S.tells base.old) (S.told base.old) set.now }
-    requires right { IsRight asked.now.verify (S.tells base.old) (S.told base.old) }
-    requires hashed { IfSome aggregate (IsHashOf (S.tells base.old) (S.told base.old) set.now) }
+    requires held { IsHeld (S.tells base.old) (stored_in set.now (S.told base.old)) set.now.marked }
+    requires right { IsRight asked.now.verify (S.tells base.old)
+        (stored_in set.now (S.told base.old)) set.now.marked }
+    requires hashed { IfSome aggregate (IsHashOf (S.tells base.old)
+        (stored_in set.now (S.told base.old)) set.now.marked) }
     requires empty { IsEmpty (M.told medium.old) }
     requires label { IsPlain asked.now.writer }
     requires plain { IsPlain writer.now }
-    requires size { overflow_of set.now.marks.items ≡ false }
-    ensures causes { StreamCauses asked.now.writer (due_of S.tells S.told base.old asked.now)
-        (S.tells base.old) (M.told medium.old) result }
-    ensures leaves { StreamLeaves (IsHeldWith set.now writer.now)
-        (due_of S.tells S.told base.old asked.now) (S.tells base.old) coords.now result
+    requires size { overflow_of set.now.marked.marks.items ≡ false }
+    ensures causes { (begun : Option (Result State ConvertError))
+        → IsHeldOf begun (S.tells base.old) (stored_in set.now (S.told base.old)) set.now.marked
+        → StreamCauses asked.now.writer (tested_due asked.now.verify begun) (S.tells base.old)
+        (M.told medium.old) result }
+    ensures leaves { (begun : Option (Result State ConvertError))
+        → IsHeldOf begun (S.tells base.old) (stored_in set.now (S.told base.old)) set.now.marked
+        → StreamLeaves (IsHeldWith set.now.marked writer.now)
+        (tested_due asked.now.verify begun) (S.tells base.old) coords.now result
         (M.told medium.old) (M.told medium.new) }
     ensures aggregate { IfOk result (λ report. report.aggregate ≡ aggregate) }
     ensures store_fault { (place : ℕ)
@@ -82,23 +90,27 @@ fn chosen<'a>(asked: &'a ConvertOptions, made: &'a Option<PmTilesWriter>) -> &'a
 fn convert_hashed<S: TileStore, O: StreamOptions, M: Medium>(
     alloc: Global,
     base: &mut S,
-    set: &MarkedSet,
+    set: &PatchedSet,
     coords: &[TileCoord],
     options: &O,
     aggregate: Option<TextVal>,
     medium: &mut M,
 ) -> Result<StreamReport, StreamError>
-    requires marked { IsMarkedFrom (S.tells base.old) (S.told base.old) set.now }
-    requires right { IsRight (O.asks options.now).verify (S.tells base.old) (S.told base.old) }
-    requires hashed { IfSome aggregate (IsHashOf (S.tells base.old) (S.told base.old) set.now) }
+    requires held { IsHeld (S.tells base.old) (stored_in set.now (S.told base.old)) set.now.marked }
+    requires right { IsRight (O.asks options.now).verify (S.tells base.old)
+        (stored_in set.now (S.told base.old)) set.now.marked }
+    requires hashed { IfSome aggregate (IsHashOf (S.tells base.old)
+        (stored_in set.now (S.told base.old)) set.now.marked) }
     requires empty { IsEmpty (M.told medium.old) }
     requires plain { IsPlain (O.asks options.now).writer }
-    ensures causes { StreamCauses (O.asks options.now).writer
-        (due_of S.tells S.told base.old (O.asks options.now)) (S.tells base.old)
-        (M.told medium.old) result }
-    ensures leaves { StreamLeaves (O.gives options.now)
-        (due_of S.tells S.told base.old (O.asks options.now)) (S.tells base.old) coords.now result
-        (M.told medium.old) (M.told medium.new) }
+    ensures causes { (begun : Option (Result State ConvertError))
+        → IsHeldOf begun (S.tells base.old) (stored_in set.now (S.told base.old)) set.now.marked
+        → StreamCauses (O.asks options.now).writer (tested_due (O.asks options.now).verify begun)
+        (S.tells base.old) (M.told medium.old) result }
+    ensures leaves { (begun : Option (Result State ConvertError))
+        → IsHeldOf begun (S.tells base.old) (stored_in set.now (S.told base.old)) set.now.marked
+        → StreamLeaves (O.gives options.now) (tested_due (O.asks options.now).verify begun)
+        (S.tells base.old) coords.now result (M.told medium.old) (M.told medium.new) }
     ensures aggregate { IfOk result (λ report. report.aggregate ≡ aggregate) }
     ensures store_fault { (place : ℕ)
         → IsErrOf result (StreamError.Convert (ConvertError.StoreFault place))
@@ -113,35 +125,37 @@ fn convert_hashed<S: TileStore, O: StreamOptions, M: Medium>(
     ensures base_still { OnOk result (S.faults base.new ≡ S.faults base.old) }
     ensures medium_still { OnOk result (M.faults medium.new ≡ M.faults medium.old) }
 {
-    if mark_overflows(&set.marks) {
+    if mark_overflows(&set.marked.marks) {
         return Err(StreamError::Convert(ConvertError::IndexEntryOverflow));
     }
-    let made = options.made_for_marked(alloc, set)?;
+    let made = options.made_for_marked(alloc, &set.marked)?;
     let asked = options.asked();
     let writer = chosen(asked, &made);
     convert_held(alloc, base, set, coords, asked, writer, aggregate, medium)
 }
 
-/// Converts a set whose marks are held, with each content read again and one of them in memory. Where its hash is to be
+/// Converts a set whose marks are held, with each content that isn't held read again and one of them in memory. Where its hash is to be
 /// verified, or wanted for itself (`hash`), each is read once more before, in the order of places.
 pub(crate) fn convert_marked<S: TileStore, O: StreamOptions, M: Medium>(
     alloc: Global,
     base: &mut S,
-    set: &MarkedSet,
+    set: &PatchedSet,
     coords: &[TileCoord],
     options: &O,
     hash: bool,
     medium: &mut M,
 ) -> Result<StreamReport, StreamError>
-    requires marked { IsMarkedFrom (S.tells base.old) (S.told base.old) set.now }
+    requires held { IsHeld (S.tells base.old) (stored_in set.now (S.told base.old)) set.now.marked }
     requires empty { IsEmpty (M.told medium.old) }
     requires plain { IsPlain (O.asks options.now).writer }
-    ensures causes { StreamCauses (O.asks options.now).writer
-        (due_of S.tells S.told base.old (O.asks options.now)) (S.tells base.old)
-        (M.told medium.old) result }
-    ensures leaves { StreamLeaves (O.gives options.now)
-        (due_of S.tells S.told base.old (O.asks options.now)) (S.tells base.old) coords.now result
-        (M.told medium.old) (M.told medium.new) }
+    ensures causes { (begun : Option (Result State ConvertError))
+        → IsHeldOf begun (S.tells base.old) (stored_in set.now (S.told base.old)) set.now.marked
+        → StreamCauses (O.asks options.now).writer (tested_due (O.asks options.now).verify begun)
+        (S.tells base.old) (M.told medium.old) result }
+    ensures leaves { (begun : Option (Result State ConvertError))
+        → IsHeldOf begun (S.tells base.old) (stored_in set.now (S.told base.old)) set.now.marked
+        → StreamLeaves (O.gives options.now) (tested_due (O.asks options.now).verify begun)
+        (S.tells base.old) coords.now result (M.told medium.old) (M.told medium.new) }
     ensures aggregate { IfOk result
         (λ report. is_some report.aggregate ≡ (O.asks options.now).verify || hash) }
     ensures store_fault { (place : ℕ)

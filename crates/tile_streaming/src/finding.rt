@@ -1,10 +1,12 @@
 // The contents of a mark, read again from the store.
-ghost use Rattle.std.specs.Prelude.{◌≡◌, true, IfOk, OnOk, Some};
+ghost use Rattle.std.specs.Prelude.{◌≡◌, false, true, IfErr, IfOk, None, OnOk, Some};
 ghost use Rattle.mb_tables.specs.declared.cell.Cell.TheVariants.{Null};
 ghost use Rattle.tile_streaming.specs.Common.{cell_bytes, FaultsCounted, place_at, ReadsOnly, Rose, tile_key};
-ghost use Rattle.tile_streaming.specs.Finding.{fits, has_size, named_told, row_bytes, row_told, tile_told};
+ghost use Rattle.tile_streaming.specs.Finding.{bytes_told, fits, has_size, named_told, row_bytes, row_told, tile_told};
+ghost use Rattle.tile_streaming.specs.PatchedSet.{bytes_in, held_bytes, stored_in};
 ghost use Rattle.tile_streaming.specs.Written.{FindCauses, IsChanged};
 
+use crate::patched_set::PatchedSet;
 use crate::{Mark, StreamError};
 use mb_lists::cell_at;
 use mb_loaded::id_key;
@@ -86,8 +88,8 @@ fn find_row<S: TileStore>(
     }
 }
 
-// The bytes of a cell, none where it has none.
-fn bytes_of(cell: &Cell) -> &[u8]
+/// The bytes of a cell, none where it has none.
+pub(crate) fn bytes_of(cell: &Cell) -> &[u8]
     ensures { result.now ≡ cell_bytes cell.now }
 {
     match cell {
@@ -133,9 +135,9 @@ fn has_contents(layout: MbtType, mark: &Mark, row: &Row) -> bool
     is_of(mark, row_bytes(layout, row, &null))
 }
 
-/// The row that has the contents that a mark is of: of a tile, or of a normalised set that of its contents.
-/// `StoreChanged` comes where there is no such row.
-pub(crate) fn marked_row<S: TileStore>(
+// The row that has the contents that a mark is of: of a tile, or of a normalised set that of its contents. `StoreChanged`
+// comes where there is no such row.
+fn stored_row<S: TileStore>(
     alloc: Global,
     store: &mut S,
     layout: MbtType,
@@ -144,8 +146,8 @@ pub(crate) fn marked_row<S: TileStore>(
     ensures found { IfOk result (λ row. fits mark.now (row_bytes layout row) ≡ true) }
     ensures answer { S.tells store.old ≡ true
         → IfOk result (λ row. row_told layout (S.told store.old) mark.now.id ≡ Some row) }
-    ensures causes { FindCauses (IsChanged (S.tells store.old) (S.told store.old) layout mark.now)
-        (S.faults store.old) (S.faults store.new) result }
+    ensures causes { FindCauses (IsChanged (S.tells store.old) (bytes_told layout (S.told store.old))
+        mark.now) (S.faults store.old) (S.faults store.new) result }
     ensures kept { ReadsOnly S.told S.tells S.faults S.steady store.old store.new }
     ensures still { OnOk result (S.faults store.new ≡ S.faults store.old) }
 {
@@ -156,4 +158,46 @@ pub(crate) fn marked_row<S: TileStore>(
         return Err(StreamError::StoreChanged);
     }
     Ok(row)
+}
+
+// Whether the contents of a mark that a set holds are those that the mark is of.
+fn held_row(set: &PatchedSet, mark: &Mark) -> Result<Option<Row>, StreamError>
+    ensures held { IfOk result (λ row. row ≡ None) }
+    ensures fits { IfOk result (λ row. fits mark.now
+        (held_bytes set.now.over.state.tiles mark.now.id) ≡ true) }
+    ensures refused { IfErr result (λ e. e ≡ StreamError.StoreChanged) }
+    ensures other { IfErr result (λ e. fits mark.now
+        (held_bytes set.now.over.state.tiles mark.now.id) ≡ false) }
+{
+    if !is_of(mark, set.held_bytes(mark.id)) {
+        return Err(StreamError::StoreChanged);
+    }
+    Ok(None)
+}
+
+/// The row that has the contents that a mark is of, and none where the set holds them. `StoreChanged` comes where there
+/// are no such contents.
+pub(crate) fn marked_row<S: TileStore>(
+    alloc: Global,
+    store: &mut S,
+    set: &PatchedSet,
+    mark: &Mark,
+) -> Result<Option<Row>, StreamError>
+    ensures found { IfOk result
+        (λ row. fits mark.now (bytes_in set.now mark.now.id row) ≡ true) }
+    ensures answer { S.tells store.old ≡ true → IfOk result (λ row.
+        stored_in set.now (S.told store.old) mark.now.id ≡ Some (bytes_in set.now mark.now.id row)) }
+    ensures causes { FindCauses (IsChanged (S.tells store.old)
+        (stored_in set.now (S.told store.old)) mark.now)
+        (S.faults store.old) (S.faults store.new) result }
+    ensures kept { ReadsOnly S.told S.tells S.faults S.steady store.old store.new }
+    ensures still { OnOk result (S.faults store.new ≡ S.faults store.old) }
+{
+    if set.holds(mark.id) {
+        return held_row(set, mark);
+    }
+    match stored_row(alloc, store, set.marked.layout, mark) {
+        Ok(row) => Ok(Some(row)),
+        Err(error) => Err(error),
+    }
 }

@@ -1,6 +1,7 @@
 //! Conversions that hold no contents: a mark of each tile, and one content at a time.
 #![tactic(auto)]
 
+mod beginning;
 mod content_marks;
 mod contents;
 mod converting;
@@ -15,8 +16,11 @@ mod names;
 mod options;
 mod ordering;
 mod overlaid;
+mod patched_set;
+mod patching;
 mod reading;
 mod report;
+mod resolving;
 mod row_marks;
 mod row_tests;
 mod seen_rows;
@@ -31,4 +35,4 @@ pub use mark::{Mark, MarkedSet};
 pub use marking::read_marks;
 pub use options::StreamOptions;
 pub use report::StreamReport;
-pub use streaming::convert_streamed;
+pub use streaming::{convert_patched, convert_streamed};

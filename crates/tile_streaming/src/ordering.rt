@@ -6,8 +6,8 @@ ghost use Rattle.std.specs.List.Sorted.{IsNonDecreasingBy, IsPermutation};
 
 use crate::mark::Mark;
 
-// Puts marks in the order of their ids.
-fn sort_by_id(marks: &mut Vec<Mark>)
+/// Puts marks in the order of their ids.
+pub(crate) fn sort_by_id(marks: &mut Vec<Mark>)
     ensures same { IsPermutation marks.old.items marks.new.items }
     ensures rising { IsNonDecreasingBy (λ m. m.id) marks.new.items }
 {

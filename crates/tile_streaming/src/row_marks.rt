@@ -13,8 +13,8 @@ use mb_lists::{cell_at, coord_of};
 use mb_store::{Cell, MbtType, Row};
 use tile_ids::{TileCoord, TileId};
 
-// The mark of a coordinate and contents.
-fn mark_at(coord: TileCoord, contents: ContentMark) -> Mark
+/// The mark of a coordinate and contents.
+pub(crate) fn mark_at(coord: TileCoord, contents: ContentMark) -> Mark
     ensures mark { result ≡ record {
       id = id_of coord;
       digest = contents.digest;

@@ -3,11 +3,13 @@ ghost use Rattle.std.specs.Prelude.{◌≡◌, ◌≢◌, ◌||◌, Err, false, 
 ghost use Rattle.std.specs.Str.{bytes_eq};
 ghost use Rattle.tile_streaming.specs.Common.{is_free, ReadsOnly};
 ghost use Rattle.tile_streaming.specs.Hashing.{HashCauses, IsHashOf, stored_hash};
-ghost use Rattle.tile_streaming.specs.Streaming.{IsMarkedFrom};
+ghost use Rattle.tile_streaming.specs.PatchedSet.{stored_in};
+ghost use Rattle.tile_streaming.specs.Streaming.{IsHeld};
 
+use crate::StreamError;
 use crate::error::of_store;
 use crate::hashing::hash_marked;
-use crate::{MarkedSet, StreamError};
+use crate::patched_set::PatchedSet;
 use base_values::TextVal;
 use mb_store::{AGG_TILES_HASH, MbtError, MbtResult, TileStore};
 use std::alloc::Global;
@@ -32,17 +34,18 @@ fn same_hash(alloc: Global, stored: &TextVal, computed: TextVal) -> MbtResult<Te
 fn verified_hash<S: TileStore>(
     alloc: Global,
     store: &mut S,
-    set: &MarkedSet,
+    set: &PatchedSet,
 ) -> Result<TextVal, StreamError>
-    requires marked { IsMarkedFrom (S.tells store.old) (S.told store.old) set.now }
-    ensures hash { IfOk result (IsHashOf (S.tells store.old) (S.told store.old) set.now) }
-    ensures stored { IfOk result (λ text. stored_hash set.now ≡ Some text) }
-    ensures causes { HashCauses true (S.tells store.old) (S.told store.old) set.now
-        (S.faults store.old) (S.faults store.new) result }
+    requires held { IsHeld (S.tells store.old) (stored_in set.now (S.told store.old)) set.now.marked }
+    ensures hash { IfOk result (IsHashOf (S.tells store.old)
+        (stored_in set.now (S.told store.old)) set.now.marked) }
+    ensures stored { IfOk result (λ text. stored_hash set.now.marked ≡ Some text) }
+    ensures causes { HashCauses true (S.tells store.old) (stored_in set.now (S.told store.old))
+        set.now.marked (S.faults store.old) (S.faults store.new) result }
     ensures kept { ReadsOnly S.told S.tells S.faults S.steady store.old store.new }
     ensures still { OnOk result (S.faults store.new ≡ S.faults store.old) }
 {
-    let Some(stored) = set.names.text(AGG_TILES_HASH) else {
+    let Some(stored) = set.marked.names.text(AGG_TILES_HASH) else {
         return Err(of_store(MbtError::AggHashValueNotFound));
     };
     let computed = hash_marked(alloc, store, set)?;
@@ -57,17 +60,17 @@ fn verified_hash<S: TileStore>(
 pub(crate) fn hash_for<S: TileStore>(
     alloc: Global,
     store: &mut S,
-    set: &MarkedSet,
+    set: &PatchedSet,
     verify: bool,
     hash: bool,
 ) -> Result<Option<TextVal>, StreamError>
-    requires marked { IsMarkedFrom (S.tells store.old) (S.told store.old) set.now }
+    requires held { IsHeld (S.tells store.old) (stored_in set.now (S.told store.old)) set.now.marked }
     ensures hash { IfOk result (λ text. IfSome text
-        (IsHashOf (S.tells store.old) (S.told store.old) set.now)) }
+        (IsHashOf (S.tells store.old) (stored_in set.now (S.told store.old)) set.now.marked)) }
     ensures asked { IfOk result (λ text. is_some text ≡ verify || hash) }
-    ensures stored { verify ≡ true → IfOk result (λ text. stored_hash set.now ≡ text) }
-    ensures causes { HashCauses verify (S.tells store.old) (S.told store.old) set.now
-        (S.faults store.old) (S.faults store.new) result }
+    ensures stored { verify ≡ true → IfOk result (λ text. stored_hash set.now.marked ≡ text) }
+    ensures causes { HashCauses verify (S.tells store.old) (stored_in set.now (S.told store.old))
+        set.now.marked (S.faults store.old) (S.faults store.new) result }
     ensures kept { ReadsOnly S.told S.tells S.faults S.steady store.old store.new }
     ensures still { OnOk result (S.faults store.new ≡ S.faults store.old) }
 {

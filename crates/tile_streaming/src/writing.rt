@@ -1,45 +1,47 @@
 // The archive of marks, written to a medium with one content at a time.
 ghost use Rattle.std.specs.Prelude.{◌≡◌, ◌<◌, ◌^◌, ℕ, List, [], All, Option, false, true, length, IfSome, IfOk, OnOk, OnErr};
 ghost use Rattle.pm_writer.specs.Adding.{WhereWrites, WritesSome};
-ghost use Rattle.tile_streaming.specs.Common.{add_to, AddFits, CanBeWritten, has_failed, IsEmpty, IsHidden, IsPlain, KeepsMedium, Options, OptionsFit, ReadsOnly, Tables, Took, Writes, xxh3_64};
+ghost use Rattle.tile_streaming.specs.Common.{add_to, AddFits, CanBeWritten, has_failed, IsEmpty, IsHidden, IsPlain, KeepsMedium, Options, OptionsFit, ReadsOnly, Took, Writes, xxh3_64};
 ghost use Rattle.tile_streaming.specs.Adding.{AreAdded, HaveLengths, IsAddedFor, IsTaken, adds_of};
-ghost use Rattle.tile_streaming.specs.Finding.{IsStored, row_bytes};
+ghost use Rattle.tile_streaming.specs.PatchedSet.{bytes_in, stored_in};
 ghost use Rattle.tile_streaming.specs.Sizing.{overflow_of};
+ghost use Rattle.tile_streaming.specs.Stored.{IsStored};
 ghost use Rattle.tile_streaming.specs.Written.{AddsCauses, IsChanged, StepCauses, WrittenLeaves};
 
 use crate::error::of_writer;
-use crate::finding::{marked_row, row_bytes};
-use crate::{Mark, MarkedSet, StreamError};
-use mb_store::{Cell, MbtType, Row, TileStore};
+use crate::finding::marked_row;
+use crate::patched_set::PatchedSet;
+use crate::{Mark, StreamError};
+use mb_store::{Cell, Row, TileStore};
 use pm_format::Medium;
 use pm_writer::{ArchivePlaces, PmTilesWriter, WriterState};
 use std::alloc::Global;
 
-// Adds the contents of a row under the id of its mark, whose digest they have.
+// Adds the contents of a mark, whose digest they have, under its id: those in a row, or those that the set holds.
 fn add_row<M: Medium>(
-    layout: MbtType,
+    set: &PatchedSet,
     mark: &Mark,
-    row: &Row,
+    row: &Option<Row>,
     state: &mut WriterState,
     medium: &mut M,
 ) -> Result<(), StreamError>
     requires writes { WritesSome (M.told medium.old) state.old }
     requires alive { has_failed state.old ≡ false }
-    requires digest { mark.now.digest ≡ xxh3_64 (row_bytes layout row.now) }
+    requires digest { mark.now.digest ≡ xxh3_64 (bytes_in set.now mark.now.id row.now) }
     ensures added { WhereWrites (M.told medium.old) state.old (λ o adds. OnOk result
-        (IsTaken o adds mark.now.id (row_bytes layout row.now)
+        (IsTaken o adds mark.now.id (bytes_in set.now mark.now.id row.now)
         (M.told medium.old) (M.told medium.new) state.new)) }
     ensures hidden { OnErr result (IfSome (M.told medium.new) IsHidden) }
     ensures alive { OnOk result (has_failed state.new ≡ false) }
     ensures causes { WhereWrites (M.told medium.old) state.old (λ o adds.
-        ((taken : List ℕ) → length taken ≡ length (row_bytes layout row.now)
+        ((taken : List ℕ) → length taken ≡ length (bytes_in set.now mark.now.id row.now)
         → AddFits o adds mark.now.id taken)
         → AddsCauses (M.faults medium.old) (M.faults medium.new) result) }
     ensures kept { KeepsMedium M.told M.versions M.reads M.faults M.steady medium.old medium.new }
     ensures still { OnOk result (M.faults medium.new ≡ M.faults medium.old) }
 {
     let null = Cell::Null;
-    let bytes = row_bytes(layout, row, &null);
+    let bytes = set.bytes_in(mark.id, row, &null);
     match state.add_raw_tile_with_digest(medium, mark.id, mark.digest, bytes) {
         Ok(()) => Ok(()),
         Err(error) => Err(of_writer(error)),
@@ -50,7 +52,7 @@ fn add_row<M: Medium>(
 fn add_mark<S: TileStore, M: Medium>(
     alloc: Global,
     store: &mut S,
-    layout: MbtType,
+    set: &PatchedSet,
     mark: &Mark,
     state: &mut WriterState,
     medium: &mut M,
@@ -59,14 +61,14 @@ fn add_mark<S: TileStore, M: Medium>(
     requires alive { has_failed state.old ≡ false }
     requires short { mark.now.is_long ≡ false }
     ensures added { WhereWrites (M.told medium.old) state.old (λ o adds. OnOk result
-        (IsAddedFor o adds (S.tells store.old) (S.told store.old) layout mark.now
+        (IsAddedFor o adds (S.tells store.old) (stored_in set.now (S.told store.old)) mark.now
         (M.told medium.old) (M.told medium.new) state.new)) }
     ensures hidden { OnErr result (IfSome (M.told medium.new) IsHidden) }
     ensures alive { OnOk result (has_failed state.new ≡ false) }
     ensures causes { WhereWrites (M.told medium.old) state.old (λ o adds.
         ((taken : List ℕ) → length taken ≡ mark.now.length → 0 < mark.now.length
         → AddFits o adds mark.now.id taken)
-        → StepCauses (IsChanged (S.tells store.old) (S.told store.old) layout mark.now)
+        → StepCauses (IsChanged (S.tells store.old) (stored_in set.now (S.told store.old)) mark.now)
         (S.faults store.old) (S.faults store.new) (M.faults medium.old) (M.faults medium.new)
         result) }
     ensures store_kept { ReadsOnly S.told S.tells S.faults S.steady store.old store.new }
@@ -78,15 +80,15 @@ fn add_mark<S: TileStore, M: Medium>(
     if mark.length == 0 {
         return Ok(());
     }
-    let row = marked_row(alloc, store, layout, mark)?;
-    add_row(layout, mark, &row, state, medium)
+    let row = marked_row(alloc, store, set, mark)?;
+    add_row(set, mark, &row, state, medium)
 }
 
 // Adds the contents of marks to an archive that is begun.
 fn add_marks<S: TileStore, M: Medium>(
     alloc: Global,
     store: &mut S,
-    layout: MbtType,
+    set: &PatchedSet,
     marks: &[Mark],
     state: &mut WriterState,
     medium: &mut M,
@@ -96,10 +98,10 @@ fn add_marks<S: TileStore, M: Medium>(
     requires alive { has_failed state.old ≡ false }
     requires size { overflow_of marks.now ≡ false }
     requires stored { S.tells store.old ≡ true
-        → All (IsStored layout (S.told store.old)) marks.now }
+        → All (IsStored (stored_in set.now (S.told store.old))) marks.now }
     ensures added { (o : Options) → Writes o (M.told medium.old) state.old []
-        → OnOk result (AreAdded o (S.tells store.old) (S.told store.old) layout marks.now
-        (M.told medium.old) (M.told medium.new) state.new) }
+        → OnOk result (AreAdded o (S.tells store.old) (stored_in set.now (S.told store.old))
+        marks.now (M.told medium.old) (M.told medium.new) state.new) }
     ensures hidden { OnErr result (IfSome (M.told medium.new) IsHidden) }
     ensures alive { OnOk result (has_failed state.new ≡ false) }
     ensures causes { StepCauses (S.tells store.old ≡ false) (S.faults store.old)
@@ -111,7 +113,7 @@ fn add_marks<S: TileStore, M: Medium>(
     ensures medium_still { OnOk result (M.faults medium.new ≡ M.faults medium.old) }
 {
     for mark in marks {
-        add_mark(alloc, store, layout, mark, state, medium)?;
+        add_mark(alloc, store, set, mark, state, medium)?;
     }
     Ok(())
 }
@@ -124,20 +126,20 @@ fn add_marks<S: TileStore, M: Medium>(
 pub(crate) fn write_marked<S: TileStore, M: Medium>(
     alloc: Global,
     store: &mut S,
-    set: &MarkedSet,
+    set: &PatchedSet,
     options: &PmTilesWriter,
     medium: &mut M,
 ) -> Result<ArchivePlaces, StreamError>
     requires empty { IsEmpty (M.told medium.old) }
     requires plain { IsPlain options.now }
     requires metadata { length options.now.metadata < 2 ^ 63 }
-    requires size { overflow_of set.now.marks.items ≡ false }
-    requires can { (contents : List (List ℕ)) → HaveLengths set.now.marks.items contents
-        → CanBeWritten options.now (adds_of set.now.marks.items contents) }
+    requires size { overflow_of set.now.marked.marks.items ≡ false }
+    requires can { (contents : List (List ℕ)) → HaveLengths set.now.marked.marks.items contents
+        → CanBeWritten options.now (adds_of set.now.marked.marks.items contents) }
     requires stored { S.tells store.old ≡ true
-        → All (IsStored set.now.layout (S.told store.old)) set.now.marks.items }
-    ensures leaves { WrittenLeaves options.now (S.tells store.old) (S.told store.old)
-        set.now.layout set.now.marks.items (M.told medium.old) (M.told medium.new) result }
+        → All (IsStored (stored_in set.now (S.told store.old))) set.now.marked.marks.items }
+    ensures leaves { WrittenLeaves options.now (S.tells store.old)
+        (stored_in set.now (S.told store.old)) set.now.marked.marks.items (M.told medium.old) (M.told medium.new) result }
     ensures causes { StepCauses (S.tells store.old ≡ false) (S.faults store.old)
         (S.faults store.new) (M.faults medium.old) (M.faults medium.new) result }
     ensures store_kept { ReadsOnly S.told S.tells S.faults S.steady store.old store.new }
@@ -150,8 +152,8 @@ pub(crate) fn write_marked<S: TileStore, M: Medium>(
         Ok(state) => state,
         Err(error) => return Err(of_writer(error)),
     };
-    state.reserve(set.marks.len())?;
-    add_marks(alloc, store, set.layout, &set.marks, &mut state, medium)?;
+    state.reserve(set.marked.marks.len())?;
+    add_marks(alloc, store, set, &set.marked.marks, &mut state, medium)?;
     match state.finalize(medium) {
         Ok(places) => Ok(places),
         Err(error) => Err(of_writer(error)),

@@ -1,4 +1,4 @@
-use Rattle.tile_streaming.proofs.Common.{ap, ConvertOptions, due_of, Err, IfSome, inl, IsMarkedFrom, List, Option, refl, Result, Rose, RoseAt, StreamCauses, StreamError, StreamLeaves, StreamReport, subst, ℕ, [], ◌∙◌, ◌∷◌, ◌||◌, ◌≡◌}
+use Rattle.tile_streaming.proofs.Common.{ap, ConvertOptions, Err, IfSome, inl, List, Option, refl, Result, Rose, RoseAt, StreamCauses, StreamError, StreamLeaves, StreamReport, subst, ℕ, [], ◌∙◌, ◌∷◌, ◌||◌, ◌≡◌, IsHeld, IsHeldOf, stored_in, tested_due}
 use Rattle.mb_store.proofs.FaultLemmas.{still_then}
 use Rattle.tile_bridge.specs.declared.error.ConvertError.TheVariants.{MediumFault, StoreFault}
 use Rattle.tile_streaming.proofs.DueLemmas.{causes_moved, leaves_moved, rose_more}
@@ -9,40 +9,46 @@ use Rattle.tile_streaming.specs.Hashing.{HashCauses, IsHashOf, IsRight}
 use Rattle.tile_streaming.specs.declared.error.StreamError.TheVariants.{Convert}
 use Rattle.tile_streaming.proofs.converting.convert_marked.Goals as goal
 
-pub convert_hashed-requires-clause-marked : goal.convert_hashed-requires-clause-marked
-convert_hashed-requires-clause-marked g c =
-    store_moved (λ b x. IsMarkedFrom b x c.args.set.now) (g.S.TileStore.tells c.args.base.now) (g.S.TileStore.tells c.hash_for.new.store) (g.S.TileStore.told c.args.base.now) (g.S.TileStore.told c.hash_for.new.store) c.hash_for.ensures.kept.tells c.hash_for.ensures.kept.told c.requires.marked
+pub convert_hashed-requires-clause-held : goal.convert_hashed-requires-clause-held
+convert_hashed-requires-clause-held g c =
+    let set = c.args.set.now in
+    store_moved (λ b x. IsHeld b x set.marked) (g.S.TileStore.tells c.args.base.now) (g.S.TileStore.tells c.hash_for.new.store) (stored_in set (g.S.TileStore.told c.args.base.now)) (stored_in set (g.S.TileStore.told c.hash_for.new.store)) c.hash_for.ensures.kept.tells (ap (stored_in set) c.hash_for.ensures.kept.told) c.requires.held
 
 pub convert_hashed-requires-clause-right : goal.convert_hashed-requires-clause-right
 convert_hashed-requires-clause-right g c =
+    let set = c.args.set.now in
     let tells = g.S.TileStore.tells c.args.base.now in
-    let tables = g.S.TileStore.told c.args.base.now in
-    subst (λ (o : ConvertOptions). IsRight o.verify (g.S.TileStore.tells c.hash_for.new.store) (g.S.TileStore.told c.hash_for.new.store)) c.asked.ensures
-    (store_moved (IsRight c.asked.result.now.verify) tells (g.S.TileStore.tells c.hash_for.new.store) tables (g.S.TileStore.told c.hash_for.new.store) c.hash_for.ensures.kept.tells c.hash_for.ensures.kept.told
-    (hash_right tells tables c.args.set.now c.requires.marked c.asked.result.now.verify c.args.hash c.in_ok-aggregate.aggregate c.in_ok-aggregate.ensures.asked c.in_ok-aggregate.ensures.hash c.in_ok-aggregate.ensures.stored))
+    let tells_now = g.S.TileStore.tells c.hash_for.new.store in
+    let t = stored_in set (g.S.TileStore.told c.args.base.now) in
+    let now = stored_in set (g.S.TileStore.told c.hash_for.new.store) in
+    subst (λ (o : ConvertOptions). IsRight o.verify tells_now now set.marked) c.asked.ensures
+    (store_moved (λ b x. IsRight c.asked.result.now.verify b x set.marked) tells tells_now t now c.hash_for.ensures.kept.tells (ap (stored_in set) c.hash_for.ensures.kept.told)
+    (hash_right tells t set.marked c.asked.result.now.verify c.args.hash c.in_ok-aggregate.aggregate c.in_ok-aggregate.ensures.asked c.in_ok-aggregate.ensures.hash c.in_ok-aggregate.ensures.stored))
 
 pub convert_hashed-requires-clause-hashed : goal.convert_hashed-requires-clause-hashed
 convert_hashed-requires-clause-hashed g c =
-    store_moved (λ b x. IfSome c.in_ok-aggregate.aggregate (IsHashOf b x c.args.set.now)) (g.S.TileStore.tells c.args.base.now) (g.S.TileStore.tells c.hash_for.new.store) (g.S.TileStore.told c.args.base.now) (g.S.TileStore.told c.hash_for.new.store) c.hash_for.ensures.kept.tells c.hash_for.ensures.kept.told c.in_ok-aggregate.ensures.hash
+    let set = c.args.set.now in
+    store_moved (λ b x. IfSome c.in_ok-aggregate.aggregate (IsHashOf b x set.marked)) (g.S.TileStore.tells c.args.base.now) (g.S.TileStore.tells c.hash_for.new.store) (stored_in set (g.S.TileStore.told c.args.base.now)) (stored_in set (g.S.TileStore.told c.hash_for.new.store)) c.hash_for.ensures.kept.tells (ap (stored_in set) c.hash_for.ensures.kept.told) c.in_ok-aggregate.ensures.hash
 
 pub returns-in_err-aggregate-clause-causes : goal.returns-in_err-aggregate-clause-causes
-returns-in_err-aggregate-clause-causes g c =
+returns-in_err-aggregate-clause-causes g c = λ begun from.
+    let set = c.args.set.now in
     let tells = g.S.TileStore.tells c.args.base.now in
-    let tables = g.S.TileStore.told c.args.base.now in
+    let t = stored_in set (g.S.TileStore.told c.args.base.now) in
     let asks = g.O.ArchiveOptions.asks c.args.options.now in
     let told = g.M.Backend.told c.args.medium.now in
     let s = g.S.TileStore.faults c.args.base.now in
     let sn = g.S.TileStore.faults c.hash_for.new.store in
     let x = c.in_err-aggregate.field-0.0 in
-    same_error x _ (λ (r : Result StreamReport StreamError). StreamCauses asks.writer (due_of g.S.TileStore.tells g.S.TileStore.told c.args.base.now asks) tells told r)
-    (hash_causes tells tables c.args.set.now c.requires.marked (Option (List ℕ)) asks asks.writer told s sn x c.requires.empty c.requires.plain
-    (subst (λ (o : ConvertOptions). HashCauses {A = Option (List ℕ)} o.verify tells tables c.args.set.now s sn (Err x)) c.asked.ensures c.in_err-aggregate.ensures.causes)) c.from_residual.ensures.1
+    same_error x _ (λ (r : Result StreamReport StreamError). StreamCauses asks.writer (tested_due asks.verify begun) tells told r)
+    (hash_causes tells t set.marked begun from (Option (List ℕ)) asks.verify asks.writer told s sn x c.requires.empty c.requires.plain
+    (subst (λ (o : ConvertOptions). HashCauses {A = Option (List ℕ)} o.verify tells t set.marked s sn (Err x)) c.asked.ensures c.in_err-aggregate.ensures.causes)) c.from_residual.ensures.1
 
 pub returns-in_err-aggregate-clause-leaves : goal.returns-in_err-aggregate-clause-leaves
-returns-in_err-aggregate-clause-leaves g c =
+returns-in_err-aggregate-clause-leaves g c = λ begun from.
     let asks = g.O.ArchiveOptions.asks c.args.options.now in
     let told = g.M.Backend.told c.args.medium.now in
-    same_error c.in_err-aggregate.field-0.0 _ (λ (r : Result StreamReport StreamError). StreamLeaves (g.O.ArchiveOptions.gives c.args.options.now) (due_of g.S.TileStore.tells g.S.TileStore.told c.args.base.now asks) (g.S.TileStore.tells c.args.base.now) c.args.coords.now r told told)
+    same_error c.in_err-aggregate.field-0.0 _ (λ (r : Result StreamReport StreamError). StreamLeaves (g.O.ArchiveOptions.gives c.args.options.now) (tested_due asks.verify begun) (g.S.TileStore.tells c.args.base.now) c.args.coords.now r told told)
     (inl (record { refused = tt; medium = refl })) c.from_residual.ensures.1
 
 pub returns-in_err-aggregate-clause-store_fault : goal.returns-in_err-aggregate-clause-store_fault
@@ -51,7 +57,7 @@ returns-in_err-aggregate-clause-store_fault g c = λ place h.
     let sn = g.S.TileStore.faults c.hash_for.new.store in
     let x = c.in_err-aggregate.field-0.0 in
     same_error x _ (λ (r : Result StreamReport StreamError). r ≡ Err (Convert (StoreFault place)) → RoseAt place (s ∷ []) (sn ∷ []))
-    (λ is. hash_rose (Option (List ℕ)) c.asked.result.now.verify (g.S.TileStore.tells c.args.base.now) (g.S.TileStore.told c.args.base.now) c.args.set.now s sn x place c.in_err-aggregate.ensures.causes (error_of x (Convert (StoreFault place)) is))
+    (λ is. hash_rose (Option (List ℕ)) c.asked.result.now.verify (g.S.TileStore.tells c.args.base.now) (stored_in c.args.set.now (g.S.TileStore.told c.args.base.now)) c.args.set.now.marked s sn x place c.in_err-aggregate.ensures.causes (error_of x (Convert (StoreFault place)) is))
     c.from_residual.ensures.1 h
 
 pub returns-in_err-aggregate-clause-fault : goal.returns-in_err-aggregate-clause-fault
@@ -61,19 +67,31 @@ returns-in_err-aggregate-clause-fault g c = λ h.
     let x = c.in_err-aggregate.field-0.0 in
     let medium = g.M.Backend.faults c.args.medium.now in
     same_error x _ (λ (r : Result StreamReport StreamError). r ≡ Err (Convert MediumFault) → Rose medium medium)
-    (λ is. absurd (hash_no_medium (Option (List ℕ)) c.asked.result.now.verify (g.S.TileStore.tells c.args.base.now) (g.S.TileStore.told c.args.base.now) c.args.set.now s sn x c.in_err-aggregate.ensures.causes (error_of x (Convert MediumFault) is)))
+    (λ is. absurd (hash_no_medium (Option (List ℕ)) c.asked.result.now.verify (g.S.TileStore.tells c.args.base.now) (stored_in c.args.set.now (g.S.TileStore.told c.args.base.now)) c.args.set.now.marked s sn x c.in_err-aggregate.ensures.causes (error_of x (Convert MediumFault) is)))
     c.from_residual.ensures.1 h
 
 pub returns-clause-causes : goal.returns-clause-causes
-returns-clause-causes g c =
+returns-clause-causes g c = λ begun from.
+    let set = c.args.set.now in
+    let tells = g.S.TileStore.tells c.args.base.now in
+    let tells_now = g.S.TileStore.tells c.hash_for.new.store in
+    let t = stored_in set (g.S.TileStore.told c.args.base.now) in
+    let now = stored_in set (g.S.TileStore.told c.hash_for.new.store) in
     let asks = g.O.ArchiveOptions.asks c.args.options.now in
-    causes_moved (g.S.TileStore.tells c.args.base.now) (g.S.TileStore.tells c.hash_for.new.store) (g.S.TileStore.told c.args.base.now) (g.S.TileStore.told c.hash_for.new.store) asks c.hash_for.ensures.kept.tells c.hash_for.ensures.kept.told
-    asks.writer (g.M.Backend.told c.args.medium.now) c.convert_hashed.result c.convert_hashed.ensures.causes
+    let moved = store_moved (λ b x. IsHeldOf begun b x set.marked) tells tells_now t now c.hash_for.ensures.kept.tells (ap (stored_in set) c.hash_for.ensures.kept.told) from in
+    causes_moved (tested_due asks.verify begun) tells tells_now c.hash_for.ensures.kept.tells asks.writer (g.M.Backend.told c.args.medium.now) c.convert_hashed.result (c.convert_hashed.ensures.causes begun moved)
 
 pub returns-clause-leaves : goal.returns-clause-leaves
-returns-clause-leaves g c =
-    leaves_moved (g.S.TileStore.tells c.args.base.now) (g.S.TileStore.tells c.hash_for.new.store) (g.S.TileStore.told c.args.base.now) (g.S.TileStore.told c.hash_for.new.store) (g.O.ArchiveOptions.asks c.args.options.now) c.hash_for.ensures.kept.tells c.hash_for.ensures.kept.told
-    (g.O.ArchiveOptions.gives c.args.options.now) c.args.coords.now c.convert_hashed.result (g.M.Backend.told c.args.medium.now) (g.M.Backend.told c.convert_hashed.new.medium) c.convert_hashed.ensures.leaves
+returns-clause-leaves g c = λ begun from.
+    let set = c.args.set.now in
+    let tells = g.S.TileStore.tells c.args.base.now in
+    let tells_now = g.S.TileStore.tells c.hash_for.new.store in
+    let t = stored_in set (g.S.TileStore.told c.args.base.now) in
+    let now = stored_in set (g.S.TileStore.told c.hash_for.new.store) in
+    let asks = g.O.ArchiveOptions.asks c.args.options.now in
+    let moved = store_moved (λ b x. IsHeldOf begun b x set.marked) tells tells_now t now c.hash_for.ensures.kept.tells (ap (stored_in set) c.hash_for.ensures.kept.told) from in
+    leaves_moved (tested_due asks.verify begun) tells tells_now c.hash_for.ensures.kept.tells
+    (g.O.ArchiveOptions.gives c.args.options.now) c.args.coords.now c.convert_hashed.result (g.M.Backend.told c.args.medium.now) (g.M.Backend.told c.convert_hashed.new.medium) (c.convert_hashed.ensures.leaves begun moved)
 
 pub returns-clause-store_fault : goal.returns-clause-store_fault
 returns-clause-store_fault g c = λ place h. rose_more place (g.S.TileStore.faults c.args.base.now) (g.S.TileStore.faults c.hash_for.new.store) (g.S.TileStore.faults c.convert_hashed.new.base) c.hash_for.ensures.kept.faults (c.convert_hashed.ensures.store_fault place h)

@@ -1,9 +1,8 @@
-use Rattle.tile_streaming.proofs.Common.{All, IsStored, length, List, Mark, subst, sym, ◌<◌, ◌≡◌, ◌≢◌}
+use Rattle.tile_streaming.proofs.Common.{All, IsStored, length, List, Mark, stored_in, subst, sym, ◌<◌, ◌≡◌, ◌≢◌}
 use Rattle.std.proofs.Common.{flat_map}
 use Rattle.tile_streaming.proofs.HashLemmas.{are_some, is_none, none_hashed, some_hashed}
 use Rattle.tile_streaming.proofs.SpotLemmas.{all_within}
 use Rattle.tile_streaming.proofs.StoredLemmas.{all_stored}
-use Rattle.tile_streaming.proofs.StreamLemmas.{told_first}
 use Rattle.tile_streaming.specs.Common.{in_hexadecimal, tile_text}
 use Rattle.tile_streaming.specs.Hashing.{AreHashed, tiles_with}
 use Rattle.tile_streaming.specs.Spots.{AreSpots, marks_at}
@@ -11,9 +10,9 @@ use Rattle.tile_streaming.specs.declared.spots.Spot.{Spot}
 use Rattle.tile_streaming.proofs.hashing.hash_marked.Goals as goal
 
 pub returns-then-is_empty-clause-hash : goal.returns-then-is_empty-clause-hash
-returns-then-is_empty-clause-hash g c = λ s held due.
+returns-then-is_empty-clause-hash g c = λ s held has.
     let none = is_none (length c.as_slice-marks.result.now) c.is_empty.result c.is_empty.ensures c.if-is_empty.true in
-    none_hashed (g.S.TileStore.tells c.args.store.now) (g.S.TileStore.told c.args.store.now) c.args.set.now (λ u. g.met.S.TileStore.sound c.args.store.now u) s held due
+    none_hashed (g.S.TileStore.tells c.args.store.now) (stored_in c.args.set.now (g.S.TileStore.told c.args.store.now)) c.args.set.now.marked s held has
     (subst (λ (l : List Mark). length l ≡ 0) c.as_slice-marks.ensures.value none) c.in_ok-hash.field-0 c.in_ok-hash.ensures
 
 pub hash_spots-requires-clause-within : goal.hash_spots-requires-clause-within
@@ -22,25 +21,24 @@ hash_spots-requires-clause-within g c =
 
 pub hash_spots-requires-clause-stored : goal.hash_spots-requires-clause-stored
 hash_spots-requires-clause-stored g c = λ u.
-    let tables = g.S.TileStore.told c.args.store.now in
-    let from = c.requires.marked in
-    let held = from.marked.held in
-    subst (λ (l : List Mark). All (IsStored c.args.set.now.layout tables) l) (sym c.as_slice-marks.ensures.value)
-    (all_stored tables c.args.set.now.layout from.marked.state c.args.set.now.marks.items (g.met.S.TileStore.sound c.args.store.now u) (told_first _ _ c.args.set.now from u) held.layout held.marks)
+    let t = stored_in c.args.set.now (g.S.TileStore.told c.args.store.now) in
+    let from = c.requires.held in
+    subst (λ (l : List Mark). All (IsStored t) l) (sym c.as_slice-marks.ensures.value)
+    (all_stored t from.state.tiles c.args.set.now.marked.marks.items from.held.marks (from.has u))
 
 pub returns-clause-hash : goal.returns-clause-hash
-returns-clause-hash g c = λ s held due.
+returns-clause-hash g c = λ s held has.
     let tells = g.S.TileStore.tells c.args.store.now in
-    let tables = g.S.TileStore.told c.args.store.now in
-    let set = c.args.set.now in
+    let t = stored_in c.args.set.now (g.S.TileStore.told c.args.store.now) in
+    let set = c.args.set.now.marked in
     let slice = c.as_slice-marks.result.now in
     let spots = c.in_ok-spots.spots.items in
     let stream = c.hash_spots.new.stream in
     let a = in_hexadecimal set.algorithm in
     let some = subst (λ (l : List Mark). length l ≢ 0) c.as_slice-marks.ensures.value (are_some (length slice) c.is_empty.result c.is_empty.ensures c.if-is_empty.false) in
     let are : AreSpots set.marks.items spots = subst (λ (l : List Mark). AreSpots l spots) c.as_slice-marks.ensures.value c.in_ok-spots.ensures in
-    let first = subst (λ b. AreHashed tells tables set.layout b (marks_at slice c.deref.result.now) stream) c.in_hexadecimal.ensures (c.in_ok-hash_spots.ensures.hashed c.in_hexadecimal.result c.new-stream.ensures) in
-    let all : AreHashed tells tables set.layout a (marks_at set.marks.items spots) stream =
-    subst (λ (l : List Mark). AreHashed tells tables set.layout a (marks_at l spots) stream) c.as_slice-marks.ensures.value (subst (λ (l : List Spot). AreHashed tells tables set.layout a (marks_at slice l) stream) c.deref.ensures.value first) in
-    some_hashed tells tables set (λ u. g.met.S.TileStore.sound c.args.store.now u) s held due some spots are stream all c.in_ok-finish.field-0
+    let first = subst (λ b. AreHashed tells t b (marks_at slice c.deref.result.now) stream) c.in_hexadecimal.ensures (c.in_ok-hash_spots.ensures.hashed c.in_hexadecimal.result c.new-stream.ensures) in
+    let all : AreHashed tells t a (marks_at set.marks.items spots) stream =
+    subst (λ (l : List Mark). AreHashed tells t a (marks_at l spots) stream) c.as_slice-marks.ensures.value (subst (λ (l : List Spot). AreHashed tells t a (marks_at slice l) stream) c.deref.ensures.value first) in
+    some_hashed tells t set s held has some spots are stream all c.in_ok-finish.field-0
     (c.in_ok-finish.ensures a (flat_map tile_text (tiles_with (marks_at set.marks.items spots) all.contents)) all.taken)

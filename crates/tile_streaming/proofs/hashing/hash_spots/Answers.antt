@@ -1,4 +1,4 @@
-use Rattle.tile_streaming.proofs.Common.{arith, false, FindCauses, refl, [], ◌∙◌, ◌≡◌}
+use Rattle.tile_streaming.proofs.Common.{arith, false, FindCauses, refl, [], ◌∙◌, ◌≡◌, ap, stored_in}
 use Rattle.tile_streaming.proofs.HashedLemmas.{hash_refused, hashed_next}
 use Rattle.tile_streaming.proofs.StepLemmas.{same_error}
 use Rattle.tile_streaming.proofs.hashing.hash_spots.Goals as goal
@@ -15,7 +15,7 @@ loop-spot-preserved g c =
     let i = c.loop-spot.invariant in (
       λ a taken.
           let so = i.0 a taken in
-          hashed_next (g.S.TileStore.tells c.args.store.now) (g.S.TileStore.tells c.loop-spot.store) (g.S.TileStore.told c.args.store.now) (g.S.TileStore.told c.loop-spot.store) c.args.layout c.args.marks.now c.args.spots.now c.loop-spot.spot-index _ _ c.index-marks-spot.result c.index-marks-spot.is c.loop-spot-test.true c.requires.within i.1.tells i.1.told
+          hashed_next (g.S.TileStore.tells c.args.store.now) (g.S.TileStore.tells c.loop-spot.store) (stored_in c.args.set.now (g.S.TileStore.told c.args.store.now)) (stored_in c.args.set.now (g.S.TileStore.told c.loop-spot.store)) c.args.marks.now c.args.spots.now c.loop-spot.spot-index _ _ c.index-marks-spot.result c.index-marks-spot.is c.loop-spot-test.true c.requires.within i.1.tells (ap (stored_in c.args.set.now) i.1.told)
           a c.loop-spot.stream c.hash_mark.new.stream so (c.in_ok-hash_mark.ensures.hashed a _ so.taken),
       record {
         told = c.in_ok-hash_mark.ensures.kept.told ∙ i.1.told;
@@ -31,6 +31,6 @@ pub returns-in_err-hash_mark-clause-causes : goal.returns-in_err-hash_mark-claus
 returns-in_err-hash_mark-clause-causes g c =
     let i = c.loop-spot.invariant in
     same_error c.in_err-hash_mark.field-0.0 _ (λ r. FindCauses {A = Unit {0}} (g.S.TileStore.tells c.args.store.now ≡ false) (g.S.TileStore.faults c.args.store.now) (g.S.TileStore.faults c.hash_mark.new.store) r)
-    (hash_refused (g.S.TileStore.tells c.args.store.now) (g.S.TileStore.tells c.loop-spot.store) (g.S.TileStore.told c.args.store.now) (g.S.TileStore.told c.loop-spot.store) c.args.layout c.args.marks.now c.args.spots.now c.loop-spot.spot-index _ _ c.index-marks-spot.result c.index-marks-spot.is c.loop-spot-test.true c.requires.within i.1.tells i.1.told
+    (hash_refused (g.S.TileStore.tells c.args.store.now) (g.S.TileStore.tells c.loop-spot.store) (stored_in c.args.set.now (g.S.TileStore.told c.args.store.now)) (stored_in c.args.set.now (g.S.TileStore.told c.loop-spot.store)) c.args.marks.now c.args.spots.now c.loop-spot.spot-index _ _ c.index-marks-spot.result c.index-marks-spot.is c.loop-spot-test.true c.requires.within i.1.tells (ap (stored_in c.args.set.now) i.1.told)
     (Unit {0}) (g.S.TileStore.faults c.args.store.now) (g.S.TileStore.faults c.loop-spot.store) (g.S.TileStore.faults c.hash_mark.new.store) c.in_err-hash_mark.field-0.0 c.requires.stored i.1.faults c.in_err-hash_mark.ensures.causes)
     c.from_residual.ensures.1

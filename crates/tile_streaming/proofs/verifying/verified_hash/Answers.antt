@@ -1,4 +1,4 @@
-use Rattle.tile_streaming.proofs.Common.{ap, Err, List, option_copied, refl, Some, StreamError, subst, sym, true, ℕ, ◌∙◌}
+use Rattle.tile_streaming.proofs.Common.{ap, Err, List, option_copied, refl, Some, StreamError, subst, sym, true, ℕ, ◌∙◌, stored_in}
 use Rattle.tile_streaming.proofs.VerifyLemmas.{hash_differs}
 use Rattle.tile_streaming.specs.Hashing.{HashCauses, IsHashOf}
 use Rattle.tile_streaming.proofs.verifying.verified_hash.Goals as goal
@@ -6,11 +6,11 @@ use Rattle.tile_streaming.proofs.verifying.verified_hash.Goals as goal
 pub returns-in_default-clause-causes : goal.returns-in_default-clause-causes
 returns-in_default-clause-causes g c =
     let store = g.S.TileStore.faults c.args.store.now in
-    subst (λ (x : StreamError). HashCauses {A = List ℕ} true (g.S.TileStore.tells c.args.store.now) (g.S.TileStore.told c.args.store.now) c.args.set.now store store (Err x)) (sym c.of_store.ensures)
+    subst (λ (x : StreamError). HashCauses {A = List ℕ} true (g.S.TileStore.tells c.args.store.now) (stored_in c.args.set.now (g.S.TileStore.told c.args.store.now)) c.args.set.now.marked store store (Err x)) (sym c.of_store.ensures)
     (refl, refl, sym c.text.ensures ∙ ap option_copied c.in_default.is)
 
 pub returns-in-Ok-clause-hash : goal.returns-in-Ok-clause-hash
-returns-in-Ok-clause-hash g c = subst (IsHashOf (g.S.TileStore.tells c.args.store.now) (g.S.TileStore.told c.args.store.now) c.args.set.now) (sym c.in-Ok.ensures.computed) c.in_ok-computed.ensures.hash
+returns-in-Ok-clause-hash g c = subst (IsHashOf (g.S.TileStore.tells c.args.store.now) (stored_in c.args.set.now (g.S.TileStore.told c.args.store.now)) c.args.set.now.marked) (sym c.in-Ok.ensures.computed) c.in_ok-computed.ensures.hash
 
 pub returns-in-Ok-clause-stored : goal.returns-in-Ok-clause-stored
 returns-in-Ok-clause-stored g c = sym c.text.ensures ∙ ap option_copied c.in-Some.is ∙ ap Some (sym c.in-Ok.ensures.stored)
@@ -18,9 +18,9 @@ returns-in-Ok-clause-stored g c = sym c.text.ensures ∙ ap option_copied c.in-S
 pub returns-in-Err-clause-causes : goal.returns-in-Err-clause-causes
 returns-in-Err-clause-causes g c =
     let tells = g.S.TileStore.tells c.args.store.now in
-    let tables = g.S.TileStore.told c.args.store.now in
+    let t = stored_in c.args.set.now (g.S.TileStore.told c.args.store.now) in
     let store = g.S.TileStore.faults c.args.store.now in
     let now = g.S.TileStore.faults c.hash_marked.new.store in
-    subst (λ (x : StreamError). HashCauses {A = List ℕ} true tells tables c.args.set.now store now (Err x)) (sym c.of_store-in-Err.ensures)
-    (hash_differs (List ℕ) true tells tables c.args.set.now store now c.in-Err.error c.in_ok-computed.computed c.in-Some.stored.now refl c.in-Err.ensures.refused c.in-Err.ensures.differ (λ e. c.in-Err.ensures.fault (ap Err e))
+    subst (λ (x : StreamError). HashCauses {A = List ℕ} true tells t c.args.set.now.marked store now (Err x)) (sym c.of_store-in-Err.ensures)
+    (hash_differs (List ℕ) true tells t c.args.set.now.marked store now c.in-Err.error c.in_ok-computed.computed c.in-Some.stored.now refl c.in-Err.ensures.refused c.in-Err.ensures.differ (λ e. c.in-Err.ensures.fault (ap Err e))
     (sym c.text.ensures ∙ ap option_copied c.in-Some.is) c.in_ok-computed.ensures.hash)

@@ -1,4 +1,4 @@
-use Rattle.tile_streaming.proofs.Common.{arith, IsChanged, IsStored, medium_same, medium_then, refl, rules, StepCauses, subst, sym, false, [], ◌∙◌, ◌≡◌}
+use Rattle.tile_streaming.proofs.Common.{arith, IsChanged, IsStored, medium_same, medium_then, refl, rules, StepCauses, subst, sym, false, [], ◌∙◌, ◌≡◌, ap, stored_in}
 use Rattle.tile_streaming.proofs.AddingLemmas.{added_next, fits_now, short_mark}
 use Rattle.tile_streaming.proofs.StepLemmas.{changed_untold, same_error, step_within}
 use Rattle.tile_streaming.proofs.writing.add_marks.Goals as goal
@@ -18,12 +18,13 @@ returns-in_err-add_mark-clause-causes g c =
     let o = c.requires.begun.0 in
     let so = i.0 o c.requires.begun.1 in
     let tells = g.S.TileStore.tells c.args.store.now in
-    let tables = g.S.TileStore.told c.args.store.now in
+    let t = stored_in c.args.set.now (g.S.TileStore.told c.args.store.now) in
+    let now = stored_in c.args.set.now (g.S.TileStore.told c.loop-mark.store) in
     let mark = c.mark-item.result in
     let marks = c.args.marks.now in
     let told = g.M.Backend.told c.args.medium.now in
-    let fit = fits_now o tells tells tables tables c.args.layout marks c.loop-mark.mark-index mark told (g.M.Backend.told c.loop-mark.medium) c.loop-mark.state c.loop-mark-test.true c.mark-item.is so c.requires.size c.requires.begun.2 in
-    let changed = IsChanged (g.S.TileStore.tells c.loop-mark.store) (g.S.TileStore.told c.loop-mark.store) c.args.layout mark in
+    let fit = fits_now o tells tells t t marks c.loop-mark.mark-index mark told (g.M.Backend.told c.loop-mark.medium) c.loop-mark.state c.loop-mark-test.true c.mark-item.is so c.requires.size c.requires.begun.2 in
+    let changed = IsChanged (g.S.TileStore.tells c.loop-mark.store) now mark in
     let store = g.S.TileStore.faults c.args.store.now in
     let store_then = g.S.TileStore.faults c.loop-mark.store in
     let store_now = g.S.TileStore.faults c.add_mark.new.store in
@@ -32,8 +33,8 @@ returns-in_err-add_mark-clause-causes g c =
     let medium_now = g.M.Backend.faults c.add_mark.new.medium in
     same_error c.in_err-add_mark.field-0.0 _ (λ r. StepCauses {A = Unit {0}} (tells ≡ false) store store_now medium medium_now r)
     (step_within (Unit {0}) (Unit {0}) changed (tells ≡ false) store store_then store_now medium medium_then medium_now c.in_err-add_mark.field-0.0
-    (changed_untold tells (g.S.TileStore.tells c.loop-mark.store) tables (g.S.TileStore.told c.loop-mark.store) c.args.layout mark i.2.tells i.2.told
-    (λ t. subst (IsStored c.args.layout tables) (sym c.mark-item.is) (c.requires.stored t c.loop-mark.mark-index mark c.loop-mark-test.true)))
+    (changed_untold tells (g.S.TileStore.tells c.loop-mark.store) t now mark i.2.tells (ap (stored_in c.args.set.now) i.2.told)
+    (λ u. subst (IsStored t) (sym c.mark-item.is) (c.requires.stored u c.loop-mark.mark-index mark c.loop-mark-test.true)))
     i.2.faults i.3.faults (c.in_err-add_mark.ensures.causes o so.taken so.writes fit))
     c.from_residual.ensures.1
 
@@ -41,13 +42,14 @@ pub loop-mark-preserved : goal.loop-mark-preserved
 loop-mark-preserved g c =
     let i = c.loop-mark.invariant in
     let tells = g.S.TileStore.tells c.args.store.now in
-    let tables = g.S.TileStore.told c.args.store.now in
+    let t = stored_in c.args.set.now (g.S.TileStore.told c.args.store.now) in
+    let now = stored_in c.args.set.now (g.S.TileStore.told c.loop-mark.store) in
     let mark = c.mark-item.result in
     let told = g.M.Backend.told c.args.medium.now in (
       λ o w.
           let so = i.0 o w in
-          added_next o tells (g.S.TileStore.tells c.loop-mark.store) tables (g.S.TileStore.told c.loop-mark.store) c.args.layout c.args.marks.now c.loop-mark.mark-index mark told (g.M.Backend.told c.loop-mark.medium) c.loop-mark.state c.loop-mark-test.true c.mark-item.is so
-          (g.M.Backend.told c.add_mark.new.medium) c.add_mark.new.state i.2.tells i.2.told i.3.tells (c.in_ok-add_mark.ensures.added o so.taken so.writes),
+          added_next o tells (g.S.TileStore.tells c.loop-mark.store) t now c.args.marks.now c.loop-mark.mark-index mark told (g.M.Backend.told c.loop-mark.medium) c.loop-mark.state c.loop-mark-test.true c.mark-item.is so
+          (g.M.Backend.told c.add_mark.new.medium) c.add_mark.new.state i.2.tells (ap (stored_in c.args.set.now) i.2.told) i.3.tells (c.in_ok-add_mark.ensures.added o so.taken so.writes),
       search rules,
       record {
         told = c.in_ok-add_mark.ensures.store_kept.told ∙ i.2.told;
