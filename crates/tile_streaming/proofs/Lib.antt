@@ -8,6 +8,7 @@ pub mod KnownLemmas
 pub mod MarkLemmas
 pub mod MemberLemmas
 pub mod OutlineLemmas
+pub mod OverlaidLemmas
 pub mod OverlayLemmas
 pub mod PermutedLemmas
 pub mod RankLemmas

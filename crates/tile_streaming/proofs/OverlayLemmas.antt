@@ -1,6 +1,7 @@
 -- Patches of tiles that lie over others: how they are tested, and what each of the two has afterwards.
-use Rattle.tile_streaming.proofs.Common.{address_within, ap, Bool, cond, entries, entries_sorted, false, false≢true, filter, find_has, get, get-entries, Has, has_find, HashAlgorithm, InRange, IsPermutation, is_some, List}
-use Rattle.tile_streaming.proofs.Common.{map, mark_of, MbtType, Names, None, not, Option, option_or, Place, place_cmp, places_total, place_with, refl, Some, sorted_true, State, subst, sym, TileSet, true, ℕ, ◌∙◌, ◌≡◌}
+use Rattle.tile_streaming.proofs.Common.{address_within, ap, Bool, cond, entries, entries_sorted, false, false≢true, filter, find_has, get, get-entries, Has, has_find, HashAlgorithm, InRange, is_some}
+use Rattle.tile_streaming.proofs.Common.{IsPermutation, List, map, mark_of, MbtType, Names, None, not, Option, option_or, Place, place_cmp, place_with, places_total, refl, Some, sorted_true, State}
+use Rattle.tile_streaming.proofs.Common.{subst, sym, TileSet, true, ℕ, ◌∙◌, ◌≡◌}
 use Rattle.mb_edit.proofs.PatchedLemmas.{get-left, get-patched_by}
 use Rattle.mb_edit.specs.Patched.{patched, patched_at}
 use Rattle.mb_edit.specs.PatchingOrder.{may_patch}
@@ -34,6 +35,10 @@ module _ (force : Bool) (q : State) where
       (λ i. may_patch force (with_facts s (layout i) (algorithm i) (names i) over.contents) q)
       ∙ by_layout s s.layout over.contents s.contents none
 
+-- a tile that a patch puts has its bytes
+abbrev pub given : List ℕ → Option (Option (List ℕ))
+given bytes = Some (Some bytes)
+
 -- what is left of tiles that a patch has no place of
 module _ (q : TileSet) where
   abbrev pub left : TileSet → TileSet
@@ -48,9 +53,6 @@ module _ (q : TileSet) where
       by : (b : Bool) → cond (not b) (get rest p) None ≡ Some c → get rest p ≡ Some c
       by true h = absurd (cc)
       by false h = h
-
-  abbrev given : List ℕ → Option (Option (List ℕ))
-  given bytes = Some (Some bytes)
 
   -- the patched tiles lie over what is left of the rest
   pub lies_over : (s over rest : TileSet) (p : Place) → get s p ≡ option_or (get over p) (get rest p) → get (patched s q) p ≡ option_or (get (patched over q) p) (get (left rest) p)

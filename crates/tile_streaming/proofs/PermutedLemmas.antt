@@ -1,6 +1,7 @@
 -- Lists in another order: what a filter leaves of them, and the entries of a map that is held in two parts.
-use Rattle.tile_streaming.proofs.Common.{ap, arith, Bool, cond, entries, entries_sorted, Equal, false, false≢true, filter, get, get-entries, get_or, Has, inl, inr, IsPermutation, IsPermutation-cons, IsPermutation-refl, IsPermutation-trans}
-use Rattle.tile_streaming.proofs.Common.{is_some, is_sorted, IsTotalOrder, length, List, map, None, not, Option, option_or, Ordering, refl, Some, subst, suc, sym, T, true, zero, ℕ, [], ◌++◌, ◌<◌, ◌∙◌, ◌∷◌, ◌≡◌}
+use Rattle.tile_streaming.proofs.Common.{ap, arith, Bool, cond, entries, entries_sorted, Equal, false, false≢true, filter, get, get-entries, get_or, Has, inl, inr, is_some, is_sorted, IsPermutation}
+use Rattle.tile_streaming.proofs.Common.{IsPermutation-cons, IsPermutation-refl, IsPermutation-trans, IsTotalOrder, length, List, map, None, not, Option, option_or, Ordering, refl, Some, subst, suc}
+use Rattle.tile_streaming.proofs.Common.{sym, T, true, zero, ℕ, [], ◌++◌, ◌<◌, ◌∙◌, ◌∷◌, ◌≡◌}
 use Rattle.std.proofs.Common.{set}
 use Rattle.std.proofs.lemmas.List.Edits.{swap_is}
 use Rattle.std.proofs.lemmas.List.Sorted.{IsPermutation-filter_both, IsPermutation-keeps, IsPermutation-swap}
