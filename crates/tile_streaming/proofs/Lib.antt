@@ -8,6 +8,9 @@ pub mod KnownLemmas
 pub mod MarkLemmas
 pub mod MemberLemmas
 pub mod OutlineLemmas
+pub mod OverlaidLemmas
+pub mod OverlayLemmas
+pub mod PermutedLemmas
 pub mod RankLemmas
 pub mod ReadLemmas
 pub mod SizeLemmas
