@@ -1,5 +1,5 @@
 -- What is held over a base before its first patch: names that are put into an empty set.
-use Rattle.tile_streaming.proofs.Common.{ap, empty, entries, from_entries, get-empty, get-entries, get-from_entries, HashAlgorithm, List, MbtType, Names, nat_cmp, Option, refl, sym, ℕ, [], ◌∙◌, ◌∷◌, ◌≡◌}
+use Rattle.tile_streaming.proofs.Common.{ap, empty, entries, Err, from_entries, get-empty, get-entries, get-from_entries, HashAlgorithm, IfOk, List, MbtType, Names, nat_cmp, Ok, Option, refl, Result, sym, ℕ, [], ◌∙◌, ◌∷◌, ◌≡◌}
 use Rattle.mb_lists.proofs.NameLemmas.{names_antisymmetric}
 use Rattle.mb_loaded.specs.Empty.{empty_state}
 use Rattle.mb_loaded.specs.FromLast.{from_last}
@@ -47,3 +47,8 @@ module _ (layout : MbtType) (a : HashAlgorithm) (names : Names) (h : Held) (is :
 
   pub over_names : h.state.metadata ≡ names
   over_names = ap (λ (k : Held). k.state.metadata) is ∙ (put_names first (entries names) refl ∙ same_names names)
+
+-- a part of a set that is put in order again
+pub settled_as : {A E : Type 0} (f : Held → A) (r : Result Held E) (h : Held) (v : A) → f h ≡ v → IfOk r (λ l. l ≡ h) → IfOk r (λ l. f l ≡ v)
+settled_as f (Ok l) h v same is = ap f is ∙ same
+settled_as f (Err e) h v same is = tt

@@ -35,3 +35,8 @@ pub mod RowTestLemmas
 pub mod SeenLemmas
 pub mod ElementLemmas
 pub mod FactLemmas
+pub mod BegunLemmas
+pub mod HollowLemmas
+pub mod PatchLemmas
+pub mod PatchedSetLemmas
+pub mod ResolveLemmas
