@@ -1,7 +1,7 @@
 -- The marks of a set that is converted, and what is due of a base and its patches.
 use Rattle.tile_streaming.proofs.Common.{address, ap, append-nil, append_assoc, arith, Bool, bytes_of, bytes_over, bytes_told, Cell, cell_bytes, ConvertError, cond, Coord, coord_address, entries, Err, false, false≢true, HasBytes, id_of, IfErr, IfSome, is_some, IsCoord, IsDue, IsHeld, IsHeldOf, IsPermutation, IsPermutation-refl, IsRefused, length, List, map, Mark, MarkedSet, mark_of, MbtType, nat_eq, nat_tests, None, not, Ok, Option}
 use Rattle.tile_streaming.proofs.Common.{Place, PatchedSet, place_at, refl, Result, Rose, RoseAt, Some, State, state_of, Stored, stored_in, subst, suc, sym, Tables, take, TileSet, true, zero, ℕ, [], ◌&&◌, ◌++◌, ◌+◌, ◌<◌, ◌∙◌, ◌∷◌, ◌≡◌, ◌≤◌}
-use Rattle.mb_tables.specs.Tiles.{blob_cell}
+use Rattle.mb_lists.specs.Entries.{blob_cell}
 use Rattle.set_options.proofs.SetNameLemmas.{mapped_more}
 use Rattle.std.proofs.Common.{IsErrAnd}
 use Rattle.std.proofs.lemmas.List.Folds.{list_all-map}

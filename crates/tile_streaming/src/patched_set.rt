@@ -1,6 +1,6 @@
 // A set of which marks are held, and some of whose tiles are held whole.
 ghost use Rattle.std.specs.Prelude.{◌≡◌, is_some, option_copied, option_map};
-ghost use Rattle.mb_tables.specs.Tiles.{blob_cell};
+ghost use Rattle.mb_lists.specs.Entries.{blob_cell};
 ghost use Rattle.mb_tables.specs.declared.cell.Cell.TheVariants.{Null};
 ghost use Rattle.tile_streaming.specs.Common.{get};
 ghost use Rattle.tile_streaming.specs.Finding.{place_with};

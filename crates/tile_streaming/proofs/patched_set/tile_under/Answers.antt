@@ -1,5 +1,5 @@
 use Rattle.tile_streaming.proofs.Common.{ap, Coord, get, option_map, place_at, ◌∙◌}
-use Rattle.mb_tables.specs.Tiles.{blob_cell}
+use Rattle.mb_lists.specs.Entries.{blob_cell}
 use Rattle.tile_streaming.proofs.KeyLemmas.{coord_is}
 use Rattle.tile_streaming.proofs.patched_set.tile_under.Goals as goal
 
