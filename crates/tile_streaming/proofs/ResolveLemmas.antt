@@ -111,7 +111,7 @@ rose_behind (suc place) a b c xs ys order rose = absurd (omega (arith, rose))
 
 -- without patches none rose but that of the base
 pub rose_alone : {P : Type 0} (failed : P → ℕ) (place a b : ℕ) (xs ys : List P) → xs ≡ [] → ys ≡ [] → RoseAt place (a ∷ map failed xs) (b ∷ map failed ys) → RoseAt place (a ∷ []) (b ∷ [])
-rose_alone failed place a b xs ys none no rose = subst (λ l. RoseAt place (a ∷ []) (b ∷ map failed l)) no (subst (λ l. RoseAt place (a ∷ map failed l) (b ∷ map failed ys)) none rose)
+rose_alone failed place a b xs ys old now rose = subst (λ l. RoseAt place (a ∷ []) (b ∷ map failed l)) now (subst (λ l. RoseAt place (a ∷ map failed l) (b ∷ map failed ys)) old rose)
 
 pub none_left : {P : Type 0} (xs : List P) → length xs ≡ 0 → xs ≡ []
 none_left [] h = refl

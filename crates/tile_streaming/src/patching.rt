@@ -1,5 +1,5 @@
 // Patches of a base of which marks are held, one after another.
-ghost use Rattle.std.specs.Prelude.{◌≡◌, ◌≢◌, ◌<◌, ℕ, Bool, suc, filter, length, map, not, true, IfErr, IfOk, IsErrOf, None, OnOk};
+ghost use Rattle.std.specs.Prelude.{◌≡◌, ◌≢◌, ◌<◌, ℕ, Bool, Err, false, suc, filter, length, map, not, true, IfErr, IfOk, IsErrOf, None, OnOk};
 ghost use Rattle.mb_edit.specs.PatchingOrder.{may_patch};
 ghost use Rattle.mb_edit.specs.Step.{state_patched, step};
 ghost use Rattle.mb_load.specs.LoadedFrom.{IsLoadable};
