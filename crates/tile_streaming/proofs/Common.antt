@@ -52,7 +52,7 @@ pub use Rattle.std.proofs.lemmas.Option.{none-some, same_Some}
 pub use Rattle.std.proofs.lemmas.Result.{err_from_is_err_and}
 pub use Rattle.std.specs.Bool.{beq}
 pub use Rattle.std.specs.Cmp.{eq_by_cmp_equiv, IsTotalOrder, nat_cmp_total}
-pub use Rattle.std.specs.FinMap.{empty, entries-insert, entries_sorted, from_entries, get, get-empty, get-entries, get-from_entries, is_sorted, len-empty, len-entries}
+pub use Rattle.std.specs.FinMap.{contains_key, empty, entries-insert, entries_sorted, from_entries, get, get-empty, get-entries, get-from_entries, is_sorted, len-empty, len-entries}
 pub use Rattle.std.specs.FinMap.{nat_cmp-IsAntisymmetric, put}
 pub use Rattle.std.specs.FinMap.Entries.{by_order, is_some-find}
 pub use Rattle.std.specs.List.{AllByRecursion, cons_option, IsAllAdjacentAnswer, list_any}

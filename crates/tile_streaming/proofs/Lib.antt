@@ -8,6 +8,9 @@ pub mod KnownLemmas
 pub mod MarkLemmas
 pub mod MemberLemmas
 pub mod OutlineLemmas
+pub mod OverlaidLemmas
+pub mod OverlayLemmas
+pub mod PermutedLemmas
 pub mod RankLemmas
 pub mod ReadLemmas
 pub mod SizeLemmas
@@ -32,3 +35,8 @@ pub mod RowTestLemmas
 pub mod SeenLemmas
 pub mod ElementLemmas
 pub mod FactLemmas
+pub mod BegunLemmas
+pub mod HollowLemmas
+pub mod PatchLemmas
+pub mod PatchedSetLemmas
+pub mod ResolveLemmas

@@ -1,5 +1,5 @@
 -- The contents that tables have for the tiles that they hold.
-use Rattle.tile_streaming.proofs.Common.{address, address_within, All, and_from, ap, AreMarksOf, arith, beq, Bool, bytes_of, bytes_told, Cell, cell_bytes, cond, cons_option, content_cell, contents_of, entries, entries_sorted, eq_by_cmp, false, false≢true, filter, find, find_has, FitsPlace, found, fresh, get, get-empty, get-entries, Has, has_find, has_key, InRange, is_gzip, is_normalized, is_some, IsLoadedFrom}
+use Rattle.tile_streaming.proofs.Common.{address, address_within, All, and_from, ap, AreMarksOf, arith, beq, Bool, bytes_of, bytes_told, Cell, cell_bytes, cond, cons_option, content_cell, contents_of, entries, entries_sorted, eq_by_cmp, false, false≢true, filter, find, find_has, FitsPlace, found, fresh, get, get-empty, get-entries, Has, has_find, has_key, InRange, is_gzip, is_normalized, is_some, IsLoadable, IsLoadedFrom}
 use Rattle.tile_streaming.proofs.Common.{cell_at, content_rows, id_key, is_eq, is_id, is_null, named_told, row_told, tile_told, IsSound, length, List, loads, Mark, MbtType, nat_eq, nat_le, nat_tests, None, Ok, Option, option_map, Place, place_cmp, place_of, refl, row_bytes, same_place, Some, sorted_true, State, state_of, state_whole, subst, sym, Tables, tile_key, tile_of, tile_table, TileSet, true, xxh3_64, ℕ, [], ◌^◌, ◌∙◌, ◌∷◌, ◌≡◌, ◌≤◌}
 use Rattle.mb_constraints.specs.TileRows.{contents_in, id_in, tile_in}
 use Rattle.mb_load.specs.LoadedFrom.{at_place}
@@ -207,12 +207,14 @@ same_answer false = refl
 there_has : (tiles : TileSet) (e : Place × Option (List ℕ)) → Has e (entries tiles) → get tiles e.0 ≡ Some e.1
 there_has tiles e h = get-entries tiles e.0 ∙ has_find place_cmp places_total (entries tiles) e.0 e.1 (sorted_true _ (entries_sorted tiles)) h
 
--- all places of a state that tables hold are in range
-pub state_ranged : (t : Tables) (s : State) → state_of t ≡ Ok s → AllRanged (entries s.tiles)
-state_ranged t s due e h =
-    let there = there_has s.tiles e h in
-    let board = (state_whole t s due).0.on_board e.0 (ap is_some there) in
+-- all places of a state that tables can hold are in range
+pub loadable_ranged : (s : State) → IsLoadable s → AllRanged (entries s.tiles)
+loadable_ranged s whole e h =
+    let board = whole.on_board e.0 (ap is_some (there_has s.tiles e h)) in
     record { zoom = omega (arith, board.zoom); column = board.column; row = board.row }
+
+pub state_ranged : (t : Tables) (s : State) → state_of t ≡ Ok s → AllRanged (entries s.tiles)
+state_ranged t s due = loadable_ranged s (state_whole t s due).0
 
 has_there : (tiles : TileSet) (p : Place) (c : Option (List ℕ)) → get tiles p ≡ Some c → Has (p, c) (entries tiles)
 has_there tiles p c h = find_has place_cmp (λ a b e. same_place a b (ap is_eq e)) (entries tiles) p c (sym (get-entries tiles p) ∙ h)

@@ -1,5 +1,5 @@
 -- The test of a hash against the stored one.
-use Rattle.tile_streaming.proofs.Common.{ap, Bool, codes, cond, Err, false, false≢true, FindCauses, IfOk, HasBytes, IfSome, is_free, is_some, IsEmpty, IsHeldOf, IsMarkedAs, IsPlain, IsRefused, List, MarkedSet, MbtError, None, Option, Options, refl, refusal_at, Result, Rose, RoseAt, Some, State}
+use Rattle.tile_streaming.proofs.Common.{ap, Bool, codes, cond, Err, false, false≢true, FindCauses, IfOk, HasBytes, IfSome, is_free, is_some, IsEmpty, IsHeldOf, IsMarkedAs, IsPlain, IsRefused, List, MarkedSet, MbtError, None, Ok, Option, Options, refl, refusal_at, Result, Rose, RoseAt, Some, State}
 use Rattle.tile_streaming.proofs.Common.{ConvertError, Stored, StreamCauses, StreamError, StreamReport, subst, sym, tested_due, text_at, true, unless, ℕ, [], ◌||◌, ◌∙◌, ◌∷◌, ◌≡◌, ◌≢◌}
 unfoldable use Rattle.tile_streaming.proofs.Common.{aggregate}
 use Rattle.mb_tables.specs.declared.error.MbtError.TheVariants.{AggHashMismatch, AggHashValueNotFound}

@@ -1,6 +1,8 @@
 -- A base of which marks are held, and its patches one after another.
-use Rattle.std.specs.Prelude.{ℕ, ◌≡◌, Bool, true, List, Ok}
-use Rattle.mb_edit.specs.Step.{state_patched, step}
+use Rattle.std.specs.Prelude.{◌≡◌, Bool, true, List, None, Ok}
+use Rattle.mb_edit.specs.PatchingOrder.{may_patch}
+use Rattle.mb_edit.specs.Step.{state_patched}
+use Rattle.mb_load.specs.LoadedFrom.{IsLoadable, NamesAlgorithm}
 use Rattle.tile_bridge.specs.Patching.{HoldsState}
 use Rattle.tile_bridge.specs.Stores.{due_patches}
 use Rattle.tile_streaming.specs.Common.{IsDue, State, state_of, Tables}
@@ -19,7 +21,9 @@ pub record IsBegun (patched tells : Bool) (told : Tables) (x : Overlaid) : Type 
 pub record IsNext (force patch_tells : Bool) (patch_told : Tables) (patched tells : Bool) (stored : Stored) (s : State) (x : Overlaid) : Type 0 where
   pub patch : State
   pub of : HoldsState patch_tells patch_told patch
-  pub made : step force s patch ≡ Ok (state_patched s patch)
+  pub whole : IsLoadable patch
+  pub named : NamesAlgorithm patch
+  pub may : may_patch force s patch ≡ None
   pub stands : StandsFor patched tells stored x (state_patched s patch)
 
 -- a set is a state after all patches: the one that is due, where all of them tell

@@ -1,12 +1,13 @@
 // The base of a conversion, read before its patches.
-ghost use Rattle.std.specs.Prelude.{◌≡◌, ℕ, IfErr, IfOk, IsErrOf, OnOk};
+ghost use Rattle.std.specs.Prelude.{◌≡◌, ◌&&◌, ℕ, IfErr, IfOk, IsErrOf, OnOk};
 ghost use Rattle.tile_bridge.specs.Stores.{due_at, IsStoreError, Refuses};
 ghost use Rattle.tile_streaming.specs.Common.{ReadsOnly, Rose};
+ghost use Rattle.tile_streaming.specs.Overlaid.{has_digests};
 ghost use Rattle.tile_streaming.specs.Patching.{IsBegun};
 
 use crate::marking::read_marks;
 use crate::overlaid::{Overlaid, has_digests, marked_base, whole_base};
-use mb_store::{StoreError, TableDesc, TileStore, detect_type};
+use mb_store::{MbtType, StoreError, TableDesc, TileStore, detect_type};
 use std::alloc::Global;
 use tile_bridge::{ConvertError, load_at, of_store};
 
@@ -53,6 +54,13 @@ fn read_whole<S: TileStore>(
     }
 }
 
+// Whether a base of a layout is held whole.
+fn is_held_whole(patched: bool, layout: MbtType) -> bool
+    ensures { result ≡ patched && has_digests layout }
+{
+    patched && has_digests(layout)
+}
+
 // The base, of which marks are held, unless contents stand under their digests and patches follow.
 fn read_marked<S: TileStore>(
     alloc: Global,
@@ -70,7 +78,7 @@ fn read_marked<S: TileStore>(
         Ok(set) => set,
         Err(error) => return Err(of_store(0, error)),
     };
-    if patched && has_digests(set.layout) {
+    if is_held_whole(patched, set.layout) {
         drop(set);
         return read_whole(alloc, base, patched);
     }

@@ -1,5 +1,6 @@
 // A set of which marks are held, and some of whose tiles are held whole.
-ghost use Rattle.std.specs.Prelude.{◌≡◌, is_some};
+ghost use Rattle.std.specs.Prelude.{◌≡◌, is_some, option_copied, option_map};
+ghost use Rattle.mb_lists.specs.Entries.{blob_cell};
 ghost use Rattle.mb_tables.specs.declared.cell.Cell.TheVariants.{Null};
 ghost use Rattle.tile_streaming.specs.Common.{get};
 ghost use Rattle.tile_streaming.specs.Finding.{place_with};
@@ -21,19 +22,27 @@ pub(crate) struct PatchedSet {
     pub over: Loaded,
 }
 
+/// The contents of the tile whose place has an id, if a loaded set has one.
+pub(crate) fn tile_under(set: &Loaded, id: TileId) -> Option<&Cell>
+    ensures { option_copied result ≡ option_map blob_cell
+        (get set.now.state.tiles (place_with id)) }
+{
+    set.tile(TileCoord::from(id))
+}
+
 impl PatchedSet {
     /// Whether the contents of a tile are held.
     pub(crate) fn holds(&self, id: TileId) -> bool
         ensures { result ≡ is_some (get self.now.over.state.tiles (place_with id)) }
     {
-        self.over.tile(TileCoord::from(id)).is_some()
+        tile_under(&self.over, id).is_some()
     }
 
     /// The bytes of a tile whose contents are held, none of another one.
     pub(crate) fn held_bytes(&self, id: TileId) -> &[u8]
         ensures { result.now ≡ held_bytes self.now.over.state.tiles id }
     {
-        match self.over.tile(TileCoord::from(id)) {
+        match tile_under(&self.over, id) {
             Some(cell) => bytes_of(cell),
             None => &[],
         }

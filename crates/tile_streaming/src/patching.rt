@@ -1,5 +1,6 @@
 // Patches of a base of which marks are held, one after another.
-ghost use Rattle.std.specs.Prelude.{◌≡◌, ◌≢◌, ◌<◌, ℕ, Bool, suc, filter, length, map, not, true, IfErr, IfOk, IsErrOf, Ok, OnOk};
+ghost use Rattle.std.specs.Prelude.{◌≡◌, ◌≢◌, ◌<◌, ℕ, Bool, Err, false, suc, filter, length, map, not, true, IfErr, IfOk, IsErrOf, None, OnOk};
+ghost use Rattle.mb_edit.specs.PatchingOrder.{may_patch};
 ghost use Rattle.mb_edit.specs.Step.{state_patched, step};
 ghost use Rattle.mb_load.specs.LoadedFrom.{IsLoadable};
 ghost use Rattle.tile_bridge.specs.Stores.{AreOnlyRead, due_patch, due_patches, Refuses, RoseAt};
@@ -11,18 +12,18 @@ ghost use Rattle.tile_streaming.specs.Stored.{Stored};
 
 use crate::Mark;
 use crate::overlaid::Overlaid;
+use crate::patched_set::tile_under;
 use mb_edit::patch_loaded;
 use mb_loaded::Loaded;
 use mb_store::{MbtError, MbtResult, TileStore};
 use std::alloc::Global;
 use tile_bridge::{ConvertError, load_at, of_store};
-use tile_ids::TileCoord;
 
 // Whether a patch has no tile at the place of a mark.
 fn is_left(patch: &Loaded, mark: &Mark) -> bool
     ensures { result ≡ not (contains_key patch.now.state.tiles (place_with mark.now.id)) }
 {
-    patch.tile(TileCoord::from(mark.id)).is_none()
+    tile_under(patch, mark.id).is_none()
 }
 
 // Lets go the marks of places that a patch has.
@@ -36,9 +37,10 @@ fn keep_left(rest: &mut Vec<Mark>, patch: &Loaded)
 // A set after a patch that is loaded.
 fn overlay(alloc: Global, set: Overlaid, patch: &Loaded, force: bool) -> MbtResult<Overlaid>
     requires { IsLoadable patch.now.state }
-    ensures made { (patched tells : Bool) (stored : Stored) (s : State) → patched ≡ true
+    ensures layout { IfOk result (λ x. x.layout ≡ set.layout) }
+    ensures may { (patched tells : Bool) (stored : Stored) (s : State) → patched ≡ true
         → StandsFor patched tells stored set s
-        → OnOk result (step force s patch.now.state ≡ Ok (state_patched s patch.now.state)) }
+        → OnOk result (may_patch force s patch.now.state ≡ None) }
     ensures stands { (patched tells : Bool) (stored : Stored) (s : State) → patched ≡ true
         → StandsFor patched tells stored set s
         → IfOk result (λ x. StandsFor patched tells stored x (state_patched s patch.now.state)) }
@@ -62,6 +64,7 @@ fn patch_at<P: TileStore>(
     place: u64,
     force: bool,
 ) -> Result<Overlaid, ConvertError>
+    ensures layout { IfOk result (λ x. x.layout ≡ set.layout) }
     ensures next { (patched tells : Bool) (stored : Stored) (s : State) → patched ≡ true
         → StandsFor patched tells stored set s → IfOk result (IsNext force (P.tells patch.old)
         (P.told patch.old) patched tells stored s) }

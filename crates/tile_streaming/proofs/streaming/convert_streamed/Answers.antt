@@ -1,36 +1,25 @@
-use Rattle.tile_streaming.proofs.Common.{ConvertOptions, due_of, Err, IsEmpty, StreamCauses, StreamLeaves, subst, sym, ◌∙◌}
-use Rattle.mb_store.proofs.FaultLemmas.{still_then}
-use Rattle.tile_streaming.proofs.DueLemmas.{test_no_store, test_refused, test_rose}
-use Rattle.tile_streaming.proofs.StreamLemmas.{error_of, same_word}
-use Rattle.tile_streaming.specs.declared.error.StreamError.TheVariants.{Convert}
+use Rattle.tile_streaming.proofs.Common.{arith, length-map, List, StreamCauses, StreamLeaves, subst, [], ap, ◌∙◌}
+use Rattle.mb_store.specs.MemStore.{told_of}
+use Rattle.mb_store.specs.declared.mem_store.MemStore.{MemStore}
+use Rattle.std.proofs.Common.{length, map, true}
+use Rattle.tile_bridge.proofs.FoldLemmas.{as_long}
+use Rattle.tile_bridge.specs.Outcome.{due}
+use Rattle.tile_streaming.proofs.ResolveLemmas.{none_left, rose_alone}
 use Rattle.tile_streaming.proofs.streaming.convert_streamed.Goals as goal
 
-pub convert_tested-requires-clause-empty : goal.convert_tested-requires-clause-empty
-convert_tested-requires-clause-empty g c = subst IsEmpty (sym c.test_medium.ensures.kept.told) c.in-Ok.ensures.causes.0
-
-pub returns-in-Ok-clause-causes : goal.returns-in-Ok-clause-causes
-returns-in-Ok-clause-causes g c =
+pub returns-clause-causes : goal.returns-clause-causes
+returns-clause-causes g c =
     let asks = g.O.ArchiveOptions.asks c.args.options.now in
-    subst (λ m. StreamCauses asks.writer (due_of g.S.TileStore.tells g.S.TileStore.told c.args.base.now asks) (g.S.TileStore.tells c.args.base.now) m c.convert_tested.result) c.test_medium.ensures.kept.told c.convert_tested.ensures.causes
+    subst (λ (ps : List MemStore). StreamCauses asks.writer (due g.S.TileStore.tells g.S.TileStore.told (λ (s : MemStore). true) told_of c.args.base.now ps asks) (g.S.TileStore.tells c.args.base.now) (g.M.Backend.told c.args.medium.now) c.convert_patched.result) c.new-none.ensures.items c.convert_patched.ensures.causes
 
-pub returns-in-Ok-clause-leaves : goal.returns-in-Ok-clause-leaves
-returns-in-Ok-clause-leaves g c =
+pub returns-clause-leaves : goal.returns-clause-leaves
+returns-clause-leaves g c =
     let asks = g.O.ArchiveOptions.asks c.args.options.now in
-    subst (λ m. StreamLeaves (g.O.ArchiveOptions.gives c.args.options.now) (due_of g.S.TileStore.tells g.S.TileStore.told c.args.base.now asks) (g.S.TileStore.tells c.args.base.now) c.args.coords.now c.convert_tested.result m (g.M.Backend.told c.convert_tested.new.medium)) c.test_medium.ensures.kept.told c.convert_tested.ensures.leaves
+    subst (λ (ps : List MemStore). StreamLeaves (g.O.ArchiveOptions.gives c.args.options.now) (due g.S.TileStore.tells g.S.TileStore.told (λ (s : MemStore). true) told_of c.args.base.now ps asks) (g.S.TileStore.tells c.args.base.now) c.args.coords.now c.convert_patched.result (g.M.Backend.told c.args.medium.now) (g.M.Backend.told c.convert_patched.new.medium)) c.new-none.ensures.items c.convert_patched.ensures.leaves
 
-pub returns-in-Err-clause-causes : goal.returns-in-Err-clause-causes
-returns-in-Err-clause-causes g c =
-    let due = due_of g.S.TileStore.tells g.S.TileStore.told c.args.base.now (g.O.ArchiveOptions.asks c.args.options.now) in
-    let tells = g.S.TileStore.tells c.args.base.now in
-    let told = g.M.Backend.told c.args.medium.now in
-    subst (λ (o : ConvertOptions). StreamCauses o.writer due tells told (Err (Convert c.in-Err.error))) c.asked.ensures
-    (test_refused c.asked.result.now.writer due tells told (g.M.Backend.faults c.args.medium.now) (g.M.Backend.faults c.test_medium.new.medium) c.in-Err.error c.in-Err.ensures.causes)
-
-pub returns-in-Err-clause-store_fault : goal.returns-in-Err-clause-store_fault
-returns-in-Err-clause-store_fault g c = λ place h. absurd (test_no_store c.asked.result.now.writer (g.M.Backend.told c.args.medium.now) (g.M.Backend.faults c.args.medium.now) (g.M.Backend.faults c.test_medium.new.medium) c.in-Err.error place (same_word c.in-Err.error _ (error_of (Convert c.in-Err.error) _ h)) c.in-Err.ensures.causes)
-
-pub returns-in-Err-clause-fault : goal.returns-in-Err-clause-fault
-returns-in-Err-clause-fault g c = λ h. test_rose c.asked.result.now.writer (g.M.Backend.told c.args.medium.now) (g.M.Backend.faults c.args.medium.now) (g.M.Backend.faults c.test_medium.new.medium) c.in-Err.error (same_word c.in-Err.error _ (error_of (Convert c.in-Err.error) _ h)) c.in-Err.ensures.causes
-
-pub returns-in-Ok-clause-medium_still : goal.returns-in-Ok-clause-medium_still
-returns-in-Ok-clause-medium_still g c = still_then c.convert_tested.result (λ stands. stands ∙ c.in-Ok.ensures.still) c.convert_tested.ensures.medium_still
+pub returns-clause-store_fault : goal.returns-clause-store_fault
+returns-clause-store_fault g c = λ place h.
+    let old = c.new-none.result.items in
+    let new = c.convert_patched.new.patches.items in
+    let none = none_left new (as_long told_of old new c.convert_patched.ensures.patches.told ∙ ap length c.new-none.ensures.items) in
+    rose_alone _ place (g.S.TileStore.faults c.args.base.now) (g.S.TileStore.faults c.convert_patched.new.base) old new c.new-none.ensures.items none (c.convert_patched.ensures.store_fault place h)

@@ -1,39 +1,82 @@
-use Rattle.tile_streaming.proofs.Common.{ap, due_of, Err, refusal_at, RoseAt, StreamCauses, StreamError, subst, sym, [], ◌∙◌, ◌∷◌}
-use Rattle.mb_store.proofs.FaultLemmas.{still_then}
-use Rattle.tile_streaming.proofs.DueLemmas.{causes_moved, leaves_moved, marked_of, marks_refused, no_medium, rose_more, store_error}
+use Rattle.tile_streaming.proofs.Common.{ap, ConvertOptions, Err, IsHeld, IsHeldOf, list_all, map, state_of, stored_in, StreamCauses, StreamError, StreamLeaves, subst, sym, tested_due, ◌&&◌, ◌∙◌, ◌∷◌}
+use Rattle.mb_store.proofs.FaultLemmas.{still_anyway, still_then}
+use Rattle.tile_bridge.specs.Outcome.{all_patched, at_place}
+use Rattle.tile_bridge.specs.Stores.{Refuses}
+use Rattle.tile_streaming.proofs.DueLemmas.{causes_moved, due_tested, leaves_moved, no_medium, set_refused}
+use Rattle.tile_streaming.proofs.ResolveLemmas.{any_held, rose_behind}
 use Rattle.tile_streaming.proofs.StreamLemmas.{error_of, same_word}
+use Rattle.tile_streaming.proofs.VerifyLemmas.{store_moved}
+use Rattle.tile_streaming.specs.Streaming.{begun_due}
+use Rattle.tile_streaming.specs.declared.error.StreamError.TheVariants.{Convert}
 use Rattle.tile_streaming.proofs.streaming.convert_tested.Goals as goal
 
-pub convert_marked-requires-clause-marked : goal.convert_marked-requires-clause-marked
-convert_marked-requires-clause-marked g c =
-    marked_of (g.S.TileStore.tells c.args.base.now) (g.S.TileStore.tells c.read_marks.new.store) (g.S.TileStore.told c.args.base.now) (g.S.TileStore.told c.read_marks.new.store) c.in-Ok.set c.read_marks.ensures.kept.tells c.read_marks.ensures.kept.told
-    c.in-Ok.ensures.answer c.in-Ok.ensures.own
+pub convert_marked-requires-clause-held : goal.convert_marked-requires-clause-held
+convert_marked-requires-clause-held g c =
+    let set = c.in-Ok.set in
+    store_moved (λ b x. IsHeld b x set.marked) (g.S.TileStore.tells c.args.base.now) (g.S.TileStore.tells c.resolve.new.base) (stored_in set (g.S.TileStore.told c.args.base.now)) (stored_in set (g.S.TileStore.told c.resolve.new.base)) c.resolve.ensures.base_kept.tells (ap (stored_in set) c.resolve.ensures.base_kept.told)
+    (any_held (begun_due g.S.TileStore.tells g.S.TileStore.told g.P.TileStore.tells g.P.TileStore.told c.args.base.now c.args.patches.now.items c.asked.result.now.force) (g.S.TileStore.tells c.args.base.now) (stored_in set (g.S.TileStore.told c.args.base.now)) set.marked c.in-Ok.ensures.held)
 
 pub returns-in-Ok-clause-causes : goal.returns-in-Ok-clause-causes
 returns-in-Ok-clause-causes g c =
-    causes_moved (g.S.TileStore.tells c.args.base.now) (g.S.TileStore.tells c.read_marks.new.store) (g.S.TileStore.told c.args.base.now) (g.S.TileStore.told c.read_marks.new.store) (g.O.ArchiveOptions.asks c.args.options.now) c.read_marks.ensures.kept.tells c.read_marks.ensures.kept.told
-    (g.O.ArchiveOptions.asks c.args.options.now).writer (g.M.Backend.told c.args.medium.now) c.convert_marked.result c.convert_marked.ensures.causes
+    let set = c.in-Ok.set in
+    let asks = g.O.ArchiveOptions.asks c.args.options.now in
+    let tells = g.S.TileStore.tells c.args.base.now in
+    let tells_now = g.S.TileStore.tells c.resolve.new.base in
+    let told = g.S.TileStore.told c.args.base.now in
+    let now = g.S.TileStore.told c.resolve.new.base in
+    let patches = c.args.patches.now.items in
+    let begun = λ (o : ConvertOptions). begun_due g.S.TileStore.tells g.S.TileStore.told g.P.TileStore.tells g.P.TileStore.told c.args.base.now patches o.force in
+    let medium = g.M.Backend.told c.args.medium.now in
+    let moved = store_moved (λ b x. IsHeldOf (begun c.asked.result.now) b x set.marked) tells tells_now (stored_in set told) (stored_in set now) c.resolve.ensures.base_kept.tells (ap (stored_in set) c.resolve.ensures.base_kept.told) c.in-Ok.ensures.held in
+    let held = subst (λ (o : ConvertOptions). IsHeldOf (begun o) tells_now (stored_in set now) set.marked) c.asked.ensures moved in
+    let due = due_tested (tells && list_all g.P.TileStore.tells patches) (at_place 0 (state_of told)) (λ s. all_patched asks.force 1 s (map g.P.TileStore.told patches)) asks.verify in
+    subst (λ d. StreamCauses asks.writer d tells medium c.convert_marked.result) (sym due)
+    (causes_moved (tested_due asks.verify (begun asks)) tells tells_now c.resolve.ensures.base_kept.tells asks.writer medium c.convert_marked.result (c.convert_marked.ensures.causes (begun asks) held))
 
 pub returns-in-Ok-clause-leaves : goal.returns-in-Ok-clause-leaves
 returns-in-Ok-clause-leaves g c =
-    leaves_moved (g.S.TileStore.tells c.args.base.now) (g.S.TileStore.tells c.read_marks.new.store) (g.S.TileStore.told c.args.base.now) (g.S.TileStore.told c.read_marks.new.store) (g.O.ArchiveOptions.asks c.args.options.now) c.read_marks.ensures.kept.tells c.read_marks.ensures.kept.told
-    (g.O.ArchiveOptions.gives c.args.options.now) c.args.coords.now c.convert_marked.result (g.M.Backend.told c.args.medium.now) (g.M.Backend.told c.convert_marked.new.medium) c.convert_marked.ensures.leaves
+    let set = c.in-Ok.set in
+    let asks = g.O.ArchiveOptions.asks c.args.options.now in
+    let gives = g.O.ArchiveOptions.gives c.args.options.now in
+    let tells = g.S.TileStore.tells c.args.base.now in
+    let tells_now = g.S.TileStore.tells c.resolve.new.base in
+    let told = g.S.TileStore.told c.args.base.now in
+    let now = g.S.TileStore.told c.resolve.new.base in
+    let patches = c.args.patches.now.items in
+    let begun = λ (o : ConvertOptions). begun_due g.S.TileStore.tells g.S.TileStore.told g.P.TileStore.tells g.P.TileStore.told c.args.base.now patches o.force in
+    let old = g.M.Backend.told c.args.medium.now in
+    let new = g.M.Backend.told c.convert_marked.new.medium in
+    let moved = store_moved (λ b x. IsHeldOf (begun c.asked.result.now) b x set.marked) tells tells_now (stored_in set told) (stored_in set now) c.resolve.ensures.base_kept.tells (ap (stored_in set) c.resolve.ensures.base_kept.told) c.in-Ok.ensures.held in
+    let held = subst (λ (o : ConvertOptions). IsHeldOf (begun o) tells_now (stored_in set now) set.marked) c.asked.ensures moved in
+    let due = due_tested (tells && list_all g.P.TileStore.tells patches) (at_place 0 (state_of told)) (λ s. all_patched asks.force 1 s (map g.P.TileStore.told patches)) asks.verify in
+    subst (λ d. StreamLeaves gives d tells c.args.coords.now c.convert_marked.result old new) (sym due)
+    (leaves_moved (tested_due asks.verify (begun asks)) tells tells_now c.resolve.ensures.base_kept.tells gives c.args.coords.now c.convert_marked.result old new (c.convert_marked.ensures.leaves (begun asks) held))
 
 pub returns-in-Ok-clause-store_fault : goal.returns-in-Ok-clause-store_fault
-returns-in-Ok-clause-store_fault g c = λ place h. rose_more place (g.S.TileStore.faults c.args.base.now) (g.S.TileStore.faults c.read_marks.new.store) (g.S.TileStore.faults c.convert_marked.new.base) c.read_marks.ensures.kept.faults (c.convert_marked.ensures.store_fault place h)
+returns-in-Ok-clause-store_fault g c = λ place h.
+    rose_behind place (g.S.TileStore.faults c.args.base.now) (g.S.TileStore.faults c.resolve.new.base) (g.S.TileStore.faults c.convert_marked.new.base) (map g.P.TileStore.faults c.args.patches.now.items) (map g.P.TileStore.faults c.resolve.new.patches.items) c.resolve.ensures.base_kept.faults (c.convert_marked.ensures.store_fault place h)
 
 pub returns-in-Err-clause-causes : goal.returns-in-Err-clause-causes
 returns-in-Err-clause-causes g c =
-    subst (λ (e : StreamError). StreamCauses (g.O.ArchiveOptions.asks c.args.options.now).writer (due_of g.S.TileStore.tells g.S.TileStore.told c.args.base.now (g.O.ArchiveOptions.asks c.args.options.now)) (g.S.TileStore.tells c.args.base.now) (g.M.Backend.told c.args.medium.now) (Err e)) (sym c.of_store.ensures)
-    (marks_refused (g.S.TileStore.tells c.args.base.now) (g.S.TileStore.told c.args.base.now) (g.O.ArchiveOptions.asks c.args.options.now) (g.O.ArchiveOptions.asks c.args.options.now).writer (g.M.Backend.told c.args.medium.now) c.in-Err.error c.requires.empty c.requires.plain c.in-Err.ensures.answer)
+    let asks = g.O.ArchiveOptions.asks c.args.options.now in
+    let tells = g.S.TileStore.tells c.args.base.now in
+    let told = g.S.TileStore.told c.args.base.now in
+    let patches = c.args.patches.now.items in
+    let begun = λ (o : ConvertOptions). begun_due g.S.TileStore.tells g.S.TileStore.told g.P.TileStore.tells g.P.TileStore.told c.args.base.now patches o.force in
+    let medium = g.M.Backend.told c.args.medium.now in
+    let due = due_tested (tells && list_all g.P.TileStore.tells patches) (at_place 0 (state_of told)) (λ s. all_patched asks.force 1 s (map g.P.TileStore.told patches)) asks.verify in
+    subst (λ d. StreamCauses asks.writer d tells medium (Err (Convert c.in-Err.error))) (sym due)
+    (set_refused asks.verify (begun asks) asks.writer tells medium c.in-Err.error c.requires.empty c.requires.plain (subst (λ (o : ConvertOptions). Refuses (begun o) c.in-Err.error) c.asked.ensures c.in-Err.ensures.refused))
 
 pub returns-in-Err-clause-store_fault : goal.returns-in-Err-clause-store_fault
-returns-in-Err-clause-store_fault g c = λ place h.
-    let is = store_error c.in-Err.error place (same_word (refusal_at 0 c.in-Err.error) _ (sym c.of_store.ensures ∙ error_of c.of_store.result _ h)) in
-    subst (λ p. RoseAt p (g.S.TileStore.faults c.args.base.now ∷ []) (g.S.TileStore.faults c.read_marks.new.store ∷ [])) (sym is.1) (c.in-Err.ensures.fault.rose (ap Err is.0))
+returns-in-Err-clause-store_fault g c = λ place h. c.in-Err.ensures.fault place (ap Err (same_word c.in-Err.error _ (error_of (Convert c.in-Err.error) _ h)))
 
 pub returns-in-Err-clause-fault : goal.returns-in-Err-clause-fault
-returns-in-Err-clause-fault g c = λ h. absurd (no_medium c.in-Err.error (same_word (refusal_at 0 c.in-Err.error) _ (sym c.of_store.ensures ∙ error_of c.of_store.result _ h)))
+returns-in-Err-clause-fault g c = λ h.
+    absurd (no_medium (begun_due g.S.TileStore.tells g.S.TileStore.told g.P.TileStore.tells g.P.TileStore.told c.args.base.now c.args.patches.now.items c.asked.result.now.force) c.in-Err.error c.in-Err.ensures.refused (same_word c.in-Err.error _ (error_of (Convert c.in-Err.error) _ h)))
 
 pub returns-in-Ok-clause-base_still : goal.returns-in-Ok-clause-base_still
-returns-in-Ok-clause-base_still g c = still_then c.convert_marked.result (λ stands. stands ∙ c.in-Ok.ensures.fault.still) c.convert_marked.ensures.base_still
+returns-in-Ok-clause-base_still g c = still_then c.convert_marked.result (λ stands. stands ∙ c.in-Ok.ensures.base_still) c.convert_marked.ensures.base_still
+
+pub returns-in-Ok-clause-patches_still : goal.returns-in-Ok-clause-patches_still
+returns-in-Ok-clause-patches_still g c = still_anyway c.convert_marked.result c.in-Ok.ensures.patches_still
