@@ -11,7 +11,7 @@ use Rattle.pm_format.specs.declared.error.ReadCause.TheVariants as causes
 use Rattle.tileset.specs.Dump.{IsOtherRange}
 use Rattle.tileset.specs.declared.outcome.Outcome.TheVariants as outcomes
 
-pub err_outcome : (r : Result Unit Outcome) (o : Outcome) → IsErrAnd r (λ x. x ≡ o) → outcome_of r ≡ o
+pub err_outcome : {T : Type 0} (r : Result T Outcome) (o : Outcome) → IsErrAnd r (λ x. x ≡ o) → outcome_of r ≡ o
 err_outcome (Ok x) o h = absurd h
 err_outcome (Err e) o h = h
 

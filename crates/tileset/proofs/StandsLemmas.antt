@@ -42,7 +42,7 @@ pub medium_ended : (old new : Option (List ℕ)) (before mid now : ℕ) (e : Out
 medium_ended old new before mid now e r same h is = medium_stands old new before now (outcome_of r) (report_ended before mid now e r same h is)
 
 -- calls that fail
-pub input_failed : (before now : ℕ) (e : InputError) → FaultsStand {Unit} before now (Err e) → InputStands before now (of_input e)
+pub input_failed : (before now : ℕ) (e : InputError) → FaultsStand {A = Unit {0}} before now (Err e) → InputStands before now (of_input e)
 input_failed before now input.Fault stands = tt
 input_failed before now input.TooLong stands = stands
 input_failed before now input.OutOfMemory stands = tt
