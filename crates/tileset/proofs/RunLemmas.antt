@@ -1,7 +1,7 @@
 -- What a run answers and leaves once there is a script.
 use Rattle.tileset.proofs.Common.{AnsweredBy, Causes, Command, command_text, ConvertCauses, converted, ConvertLeaves, ConvertReport, Coord, Err, Gains, GainsFront, Given, HasAggregate, HasBegun}
-use Rattle.tileset.proofs.Common.{HoldsArchive, IfSome, inl, inr, IsArchiveOf, IsConvertible, IsEmpty, IsErrAnd, IsScript, LeavesMedium, LeavesOutput, LeavesPart, LeftBy, List, MediumFault, None, Ok}
-use Rattle.tileset.proofs.Common.{Option, Outcome, outcome_of, OutOfMemory, ReadBack, refl, ReportCauses, Result, Script, Some, SomeBegun, State, subst, sym, text_of, WrittenBy, ℕ, [], ◌∙◌, ◌∷◌, ◌≡◌}
+use Rattle.tileset.proofs.Common.{HoldsArchive, IfSome, inl, inr, IsArchiveOf, IsConvertible, IsEmpty, IsErrAnd, IsScript, LeavesMedium, LeavesOutput, LeavesPart, LeftBy, List, None, Ok}
+use Rattle.tileset.proofs.Common.{Option, Outcome, outcome_of, refl, ReportCauses, Result, Script, Some, SomeBegun, State, subst, sym, text_of, WrittenBy, ℕ, [], ◌∙◌, ◌∷◌, ◌≡◌}
 use Rattle.tileset.proofs.Common.{◌⊎◌}
 use Rattle.pm_contents.specs.Pieces.{BothTold}
 use Rattle.tile_bridge.specs.ReadingBack.{IsReadBack}

@@ -1,4 +1,4 @@
-use Rattle.tileset.proofs.Common.{outcome_of, refl}
+use Rattle.tileset.proofs.Common.{refl}
 use Rattle.tileset.specs.Outcomes.{of_read}
 use Rattle.tileset.proofs.StandsLemmas.{read_failed, report_ended}
 use Rattle.tileset.proofs.dump.write_piece.Goals as goal
