@@ -1,7 +1,7 @@
 -- What a run answers and leaves once there is a script.
 use Rattle.tileset.proofs.Common.{AnsweredBy, Causes, Command, command_text, ConvertCauses, converted, ConvertLeaves, ConvertReport, Coord, Err, Gains, GainsFront, Given, HasAggregate, HasBegun}
-use Rattle.tileset.proofs.Common.{HoldsArchive, IfSome, inl, inr, IsArchiveOf, IsConvertible, IsEmpty, IsErrAnd, IsScript, LeavesMedium, LeavesOutput, LeavesPart, LeftBy, List, MediumFault, None, Ok}
-use Rattle.tileset.proofs.Common.{Option, Outcome, outcome_of, OutOfMemory, ReadBack, refl, ReportCauses, Result, Script, Some, SomeBegun, State, subst, sym, text_of, WrittenBy, ℕ, [], ◌∙◌, ◌∷◌, ◌≡◌}
+use Rattle.tileset.proofs.Common.{HoldsArchive, IfSome, inl, inr, IsArchiveOf, IsConvertible, IsEmpty, IsErrAnd, IsScript, LeavesMedium, LeavesOutput, LeavesPart, LeftBy, List, None, Ok}
+use Rattle.tileset.proofs.Common.{Option, Outcome, outcome_of, refl, ReportCauses, Result, Script, Some, SomeBegun, State, subst, sym, text_of, WrittenBy, ℕ, [], ◌∙◌, ◌∷◌, ◌≡◌}
 use Rattle.tileset.proofs.Common.{◌⊎◌}
 use Rattle.pm_contents.specs.Pieces.{BothTold}
 use Rattle.tile_bridge.specs.ReadingBack.{IsReadBack}
@@ -11,7 +11,7 @@ use Rattle.pm_format.specs.declared.error.ReadCause.TheVariants as causes
 use Rattle.tileset.specs.Dump.{IsOtherRange}
 use Rattle.tileset.specs.declared.outcome.Outcome.TheVariants as outcomes
 
-pub err_outcome : (r : Result Unit Outcome) (o : Outcome) → IsErrAnd r (λ x. x ≡ o) → outcome_of r ≡ o
+pub err_outcome : {T : Type 0} (r : Result T Outcome) (o : Outcome) → IsErrAnd r (λ x. x ≡ o) → outcome_of r ≡ o
 err_outcome (Ok x) o h = absurd h
 err_outcome (Err e) o h = h
 

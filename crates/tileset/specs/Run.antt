@@ -270,11 +270,12 @@ IsReadFor (Some ConvertFile) left = IsAtEnd left
 IsReadFor (Some (Bulk tiles repeat leaf)) left = Unit {0}
 IsReadFor None left = ⊥
 
--- nothing is taken of the input where it has no script: what is left of it and how much was taken, before and now
-abbrev pub IsUntaken : Option Command → Option (List ℕ) → Option (List ℕ) → ℕ → ℕ → Type 0
-IsUntaken (Some ConvertHex) old new before now = Unit {0}
-IsUntaken (Some ConvertFile) old new before now = Unit {0}
-IsUntaken _ old new before now = (new ≡ old) × (now ≡ before)
+-- the input isn't asked where it has no script: what is left of it, how much was taken, and how often it failed, before
+-- and now
+abbrev pub IsUntaken : Option Command → Option (List ℕ) → Option (List ℕ) → ℕ → ℕ → ℕ → ℕ → Type 0
+IsUntaken (Some ConvertHex) old new before now failed fails = Unit {0}
+IsUntaken (Some ConvertFile) old new before now failed fails = Unit {0}
+IsUntaken _ old new before now failed fails = (new ≡ old) × (now ≡ before) × (fails ≡ failed)
 
 abbrev pub LoadTakes : {T : Type 0} → ℕ → ℕ → Result T Outcome → Type 0
 LoadTakes before now (Ok _) = now ≤ before + MAX_INPUT

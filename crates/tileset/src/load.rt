@@ -82,7 +82,7 @@ pub(crate) fn script_for<I: Source>(
     ensures unfailing { IfOk result ScriptNeverFails }
     ensures read { OnOk result (IsReadFor (Some command) (I.left input.new)) }
     ensures untaken { IsUntaken (Some command) (I.left input.old) (I.left input.new)
-        (I.taken input.old) (I.taken input.new) }
+        (I.taken input.old) (I.taken input.new) (I.faults input.old) (I.faults input.new) }
     ensures taken { LoadTakes (I.taken input.old) (I.taken input.new) result }
     ensures causes { IfErr result (ScriptCauses command (I.left input.old)) }
     ensures fault { IsErrOf result Outcome.InputFault

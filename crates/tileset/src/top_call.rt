@@ -46,7 +46,7 @@ pub fn run<I: Source, O: Sink, M: Medium>(
         (O.held output.old) (O.held output.new) result }
     ensures read { result ≡ Outcome.Done → IsReadFor (command words.now) (I.left input.new) }
     ensures untaken { IsUntaken (command words.now) (I.left input.old) (I.left input.new)
-        (I.taken input.old) (I.taken input.new) }
+        (I.taken input.old) (I.taken input.new) (I.faults input.old) (I.faults input.new) }
     ensures taken { Taken (I.taken input.old) (I.taken input.new) result }
     ensures input_fault { result ≡ Outcome.InputFault
         → Rose (I.faults input.old) (I.faults input.new) }
@@ -62,7 +62,8 @@ pub fn run<I: Source, O: Sink, M: Medium>(
     // Counts stand at Done, and at the answers that the definitions don't leave out.
     ensures input_still { InputStands (I.faults input.old) (I.faults input.new) result }
     ensures output_still { OutputStands (O.faults output.old) (O.faults output.new) result }
-    ensures medium_still { MediumStands (M.faults medium.old) (M.faults medium.new) result }
+    ensures medium_still { MediumStands (O.held output.old) (O.held output.new)
+        (M.faults medium.old) (M.faults medium.new) result }
 {
     match attempt(alloc, words, input, output, medium) {
         Ok(()) => Outcome::Done,
@@ -97,8 +98,8 @@ fn convert_script<O: Sink, M: Medium>(
         medium.old medium.new }
     ensures output_still { OutputStands (O.faults output.old) (O.faults output.new)
         (outcome_of result) }
-    ensures medium_still { MediumStands (M.faults medium.old) (M.faults medium.new)
-        (outcome_of result) }
+    ensures medium_still { MediumStands (O.held output.old) (O.held output.new)
+        (M.faults medium.old) (M.faults medium.new) (outcome_of result) }
 {
     let ParsedScript {
         options,
@@ -132,7 +133,7 @@ fn attempt<I: Source, O: Sink, M: Medium>(
     ensures read { outcome_of result ≡ Outcome.Done
         → IsReadFor (command words.now) (I.left input.new) }
     ensures untaken { IsUntaken (command words.now) (I.left input.old) (I.left input.new)
-        (I.taken input.old) (I.taken input.new) }
+        (I.taken input.old) (I.taken input.new) (I.faults input.old) (I.faults input.new) }
     ensures taken { Taken (I.taken input.old) (I.taken input.new) (outcome_of result) }
     ensures input_fault { outcome_of result ≡ Outcome.InputFault
         → Rose (I.faults input.old) (I.faults input.new) }
@@ -148,8 +149,8 @@ fn attempt<I: Source, O: Sink, M: Medium>(
         (outcome_of result) }
     ensures output_still { OutputStands (O.faults output.old) (O.faults output.new)
         (outcome_of result) }
-    ensures medium_still { MediumStands (M.faults medium.old) (M.faults medium.new)
-        (outcome_of result) }
+    ensures medium_still { MediumStands (O.held output.old) (O.held output.new)
+        (M.faults medium.old) (M.faults medium.new) (outcome_of result) }
 {
     let Some(command) = command_of(words) else {
         return Err(Outcome::Usage);

@@ -1,5 +1,9 @@
 use Rattle.tileset.proofs.Common.{ap, append-nil, arith, IsAtEnd, IsShort, length, List, MAX_INPUT, None, Ok, Option, Script, script_of, Some, Spells, subst, sym, TakesAll, ℕ, ◌++◌, ◌<◌, ◌^◌, ◌∙◌}
 use Rattle.tileset.proofs.Common.{◌≡◌, ◌≤◌}
+use Rattle.tileset.specs.Outcomes.{of_input}
+use Rattle.tileset.specs.Stands.{InputStands}
+use Rattle.tileset.proofs.RunLemmas.{err_outcome}
+use Rattle.tileset.proofs.StandsLemmas.{input_failed}
 use Rattle.tileset.proofs.load.load.Goals as goal
 
 -- what was left was short, and spells what was read of it
@@ -16,3 +20,7 @@ returns-clause-script g c = (read_all _ _ _ _ _ c.in_ok-take_input.ensures.all c
 
 pub returns-clause-short : goal.returns-clause-short
 returns-clause-short g c = (read_all _ _ _ _ _ c.in_ok-take_input.ensures.all c.in_ok-take_input.ensures.end (λ bytes small took. c.in_ok-finish.ensures.reads bytes small (took small))).0
+
+pub returns-in_err-take_input-clause-input_still : goal.returns-in_err-take_input-clause-input_still
+returns-in_err-take_input-clause-input_still g c =
+    subst (InputStands _ _) (sym (err_outcome c.from_residual.result (of_input c.in_err-take_input.field-0.0) c.from_residual.ensures.1)) (input_failed _ _ c.in_err-take_input.field-0.0 c.in_err-take_input.ensures.still)

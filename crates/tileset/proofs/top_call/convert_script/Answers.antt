@@ -1,8 +1,10 @@
-use Rattle.tileset.proofs.RunLemmas.{archive_left, done_output, reported_causes, reported_medium, reported_output, text_moved}
-use Rattle.tileset.proofs.Common.{Gains, GainsFront, refl, script_text, subst}
+use Rattle.tileset.proofs.RunLemmas.{archive_left, done_output, err_outcome, reported_causes, reported_medium, reported_output, text_moved}
+use Rattle.tileset.proofs.Common.{Gains, GainsFront, refl, script_text, subst, sym}
 use Rattle.tileset.proofs.PrintedLemmas.{unprinted}
+use Rattle.tileset.specs.Outcomes.{of_convert}
 use Rattle.tileset.specs.Printed.{Prints}
-use Rattle.tileset.proofs.StandsLemmas.{medium_ended, output_ended}
+use Rattle.tileset.specs.Stands.{MediumStands}
+use Rattle.tileset.proofs.StandsLemmas.{convert_failed, medium_ended, output_ended}
 use Rattle.tileset.proofs.top_call.convert_script.Goals as goal
 
 pub returns-in_err-write_report-clause-causes : goal.returns-in_err-write_report-clause-causes
@@ -49,9 +51,13 @@ pub returns-clause-printed : goal.returns-clause-printed
 returns-clause-printed g c =
     (c.in_ok-report.report, c.in_ok-report.ensures.reported, subst (λ q. Prints c.args.command q c.in_ok-report.report (g.O.Sink.held c.args.output.now) (g.O.Sink.held c.write_report.new.output)) c.as_slice-queries.ensures.value c.in_ok-write_report.ensures.printed)
 
+pub returns-in_err-report-clause-medium_still : goal.returns-in_err-report-clause-medium_still
+returns-in_err-report-clause-medium_still g c =
+    subst (MediumStands _ _ _ _) (sym (err_outcome c.from_residual.result (of_convert c.in_err-report.field-0.0) c.from_residual.ensures.1)) (convert_failed (g.O.Sink.held c.args.output.now) _ _ c.in_err-report.field-0.0)
+
 pub returns-in_err-write_report-clause-output_still : goal.returns-in_err-write_report-clause-output_still
 returns-in_err-write_report-clause-output_still g c = output_ended _ _ _ c.in_err-write_report.field-0.0 c.from_residual-in_err-write_report.result refl c.in_err-write_report.ensures.output_still c.from_residual-in_err-write_report.ensures.1
 
 pub returns-in_err-write_report-clause-medium_still : goal.returns-in_err-write_report-clause-medium_still
 returns-in_err-write_report-clause-medium_still g c =
-    medium_ended _ _ _ c.in_err-write_report.field-0.0 c.from_residual-in_err-write_report.result c.in_ok-report.ensures.medium_still c.in_err-write_report.ensures.medium_still c.from_residual-in_err-write_report.ensures.1
+    medium_ended (g.O.Sink.held c.args.output.now) (g.O.Sink.held c.write_report.new.output) _ _ _ c.in_err-write_report.field-0.0 c.from_residual-in_err-write_report.result c.in_ok-report.ensures.medium_still c.in_err-write_report.ensures.medium_still c.from_residual-in_err-write_report.ensures.1
