@@ -109,7 +109,15 @@ fn convert_file(
     let step = begin_step(rt, TOOL, "converting", path);
     let options = OptionsOfSet::new(flags.force, flags.verify);
     let is_hashed = flags.hash || !patches.is_empty();
-    match convert_patched(rt.alloc(), &mut file.set, patches, &[], &options, is_hashed, medium) {
+    match convert_patched(
+        rt.alloc(),
+        &mut file.set,
+        patches,
+        &[],
+        &options,
+        is_hashed,
+        medium,
+    ) {
         Ok(report) => {
             step.end(rt, TOOL);
             match finish(rt, flags, path, (file, medium)) {

@@ -146,8 +146,8 @@ fn stored_row<S: TileStore>(
     ensures found { IfOk result (λ row. fits mark.now (row_bytes layout row) ≡ true) }
     ensures answer { S.tells store.old ≡ true
         → IfOk result (λ row. row_told layout (S.told store.old) mark.now.id ≡ Some row) }
-    ensures causes { FindCauses (IsChanged (S.tells store.old) (bytes_told layout (S.told store.old))
-        mark.now) (S.faults store.old) (S.faults store.new) result }
+    ensures causes { FindCauses (IsChanged (S.tells store.old)
+        (bytes_told layout (S.told store.old)) mark.now) (S.faults store.old) (S.faults store.new) result }
     ensures kept { ReadsOnly S.told S.tells S.faults S.steady store.old store.new }
     ensures still { OnOk result (S.faults store.new ≡ S.faults store.old) }
 {
@@ -186,7 +186,8 @@ pub(crate) fn marked_row<S: TileStore>(
     ensures found { IfOk result
         (λ row. fits mark.now (bytes_in set.now mark.now.id row) ≡ true) }
     ensures answer { S.tells store.old ≡ true → IfOk result (λ row.
-        stored_in set.now (S.told store.old) mark.now.id ≡ Some (bytes_in set.now mark.now.id row)) }
+        stored_in set.now (S.told store.old) mark.now.id
+        ≡ Some (bytes_in set.now mark.now.id row)) }
     ensures causes { FindCauses (IsChanged (S.tells store.old)
         (stored_in set.now (S.told store.old)) mark.now)
         (S.faults store.old) (S.faults store.new) result }

@@ -110,7 +110,8 @@ pub(crate) fn hash_marked<S: TileStore>(
     store: &mut S,
     set: &PatchedSet,
 ) -> Result<TextVal, StreamError>
-    requires held { IsHeld (S.tells store.old) (stored_in set.now (S.told store.old)) set.now.marked }
+    requires held { IsHeld (S.tells store.old) (stored_in set.now (S.told store.old))
+        set.now.marked }
     ensures hash { IfOk result (IsHashOf (S.tells store.old)
         (stored_in set.now (S.told store.old)) set.now.marked) }
     ensures causes { FindCauses (S.tells store.old ≡ false)

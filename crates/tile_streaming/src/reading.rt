@@ -106,7 +106,8 @@ fn read_page<S: TileStore>(
         → OnOk result (SeesTold (SeesRows layout algorithm contents) (S.tells store.old)
         (take (from + PAGE) ((S.told store.old).rows (tile_table layout))) seen.new) }
     ensures whole { S.tells store.old ≡ true → IfOk result
-        (λ whole. whole ≡ nat_le (from + PAGE) (length ((S.told store.old).rows (tile_table layout)))) }
+        (λ whole. whole ≡ nat_le (from + PAGE)
+        (length ((S.told store.old).rows (tile_table layout)))) }
     ensures free { IfErr result (λ e. is_free e ≡ true) }
     ensures kept { ReadsOnly S.told S.tells S.faults S.steady store.old store.new }
     ensures fault { FaultsCounted S.faults store.old store.new result MbtError.StoreFault }

@@ -45,12 +45,12 @@ fn convert_tested<S: TileStore, P: TileStore, O: StreamOptions, M: Medium>(
 ) -> Result<StreamReport, StreamError>
     requires empty { IsEmpty (M.told medium.old) }
     requires plain { IsPlain (O.asks options.now).writer }
-    ensures causes { StreamCauses (O.asks options.now).writer (due S.tells S.told P.tells P.told base.old patches.old.items
-        (O.asks options.now)) (S.tells base.old)
-        (M.told medium.old) result }
-    ensures leaves { StreamLeaves (O.gives options.now) (due S.tells S.told P.tells P.told base.old patches.old.items
-        (O.asks options.now))
-        (S.tells base.old) coords.now result (M.told medium.old) (M.told medium.new) }
+    ensures causes { StreamCauses (O.asks options.now).writer (due S.tells S.told P.tells P.told
+        base.old patches.old.items (O.asks options.now)) (S.tells base.old) (M.told medium.old)
+        result }
+    ensures leaves { StreamLeaves (O.gives options.now) (due S.tells S.told P.tells P.told
+        base.old patches.old.items (O.asks options.now)) (S.tells base.old) coords.now result
+        (M.told medium.old) (M.told medium.new) }
     ensures aggregate { IfOk result
         (λ report. is_some report.aggregate ≡ (O.asks options.now).verify || hash) }
     ensures patches { AreOnlyRead P.tells P.told P.faults P.steady
@@ -105,12 +105,12 @@ pub fn convert_patched<S: TileStore, P: TileStore, O: StreamOptions, M: Medium>(
     hash: bool,
     medium: &mut M,
 ) -> Result<StreamReport, StreamError>
-    ensures causes { StreamCauses (O.asks options.now).writer (due S.tells S.told P.tells P.told base.old patches.old.items
-        (O.asks options.now)) (S.tells base.old)
-        (M.told medium.old) result }
-    ensures leaves { StreamLeaves (O.gives options.now) (due S.tells S.told P.tells P.told base.old patches.old.items
-        (O.asks options.now))
-        (S.tells base.old) coords.now result (M.told medium.old) (M.told medium.new) }
+    ensures causes { StreamCauses (O.asks options.now).writer (due S.tells S.told P.tells P.told
+        base.old patches.old.items (O.asks options.now)) (S.tells base.old) (M.told medium.old)
+        result }
+    ensures leaves { StreamLeaves (O.gives options.now) (due S.tells S.told P.tells P.told
+        base.old patches.old.items (O.asks options.now)) (S.tells base.old) coords.now result
+        (M.told medium.old) (M.told medium.new) }
     ensures aggregate { IfOk result
         (λ report. is_some report.aggregate ≡ (O.asks options.now).verify || hash) }
     ensures patches { AreOnlyRead P.tells P.told P.faults P.steady

@@ -36,7 +36,8 @@ fn verified_hash<S: TileStore>(
     store: &mut S,
     set: &PatchedSet,
 ) -> Result<TextVal, StreamError>
-    requires held { IsHeld (S.tells store.old) (stored_in set.now (S.told store.old)) set.now.marked }
+    requires held { IsHeld (S.tells store.old) (stored_in set.now (S.told store.old))
+        set.now.marked }
     ensures hash { IfOk result (IsHashOf (S.tells store.old)
         (stored_in set.now (S.told store.old)) set.now.marked) }
     ensures stored { IfOk result (λ text. stored_hash set.now.marked ≡ Some text) }
@@ -64,7 +65,8 @@ pub(crate) fn hash_for<S: TileStore>(
     verify: bool,
     hash: bool,
 ) -> Result<Option<TextVal>, StreamError>
-    requires held { IsHeld (S.tells store.old) (stored_in set.now (S.told store.old)) set.now.marked }
+    requires held { IsHeld (S.tells store.old) (stored_in set.now (S.told store.old))
+        set.now.marked }
     ensures hash { IfOk result (λ text. IfSome text
         (IsHashOf (S.tells store.old) (stored_in set.now (S.told store.old)) set.now.marked)) }
     ensures asked { IfOk result (λ text. is_some text ≡ verify || hash) }

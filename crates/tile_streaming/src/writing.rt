@@ -139,7 +139,8 @@ pub(crate) fn write_marked<S: TileStore, M: Medium>(
     requires stored { S.tells store.old ≡ true
         → All (IsStored (stored_in set.now (S.told store.old))) set.now.marked.marks.items }
     ensures leaves { WrittenLeaves options.now (S.tells store.old)
-        (stored_in set.now (S.told store.old)) set.now.marked.marks.items (M.told medium.old) (M.told medium.new) result }
+        (stored_in set.now (S.told store.old)) set.now.marked.marks.items
+        (M.told medium.old) (M.told medium.new) result }
     ensures causes { StepCauses (S.tells store.old ≡ false) (S.faults store.old)
         (S.faults store.new) (M.faults medium.old) (M.faults medium.new) result }
     ensures store_kept { ReadsOnly S.told S.tells S.faults S.steady store.old store.new }

@@ -129,7 +129,15 @@ fn say_changed(
     let answer = if patches.is_empty() {
         convert_streamed(alloc, &mut store, coords, &options, false, &mut medium)
     } else {
-        convert_patched(alloc, &mut store, &mut patches, coords, &options, false, &mut medium)
+        convert_patched(
+            alloc,
+            &mut store,
+            &mut patches,
+            coords,
+            &options,
+            false,
+            &mut medium,
+        )
     };
     match whole(alloc, answer) {
         Ok(_) => said_outcome(alloc, out, Outcome::Done)?,

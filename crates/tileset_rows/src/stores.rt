@@ -10,9 +10,7 @@ use std::alloc::Global;
 use std::fmt::Write;
 use tile_bridge::{ConvertError, ConvertOptions, ConvertReport, convert};
 use tile_ids::TileCoord;
-use tile_streaming::{
-    StreamError, StreamOptions, StreamReport, convert_patched, convert_streamed,
-};
+use tile_streaming::{StreamError, StreamOptions, StreamReport, convert_patched, convert_streamed};
 use tileset::{MAX_INPUT, Outcome};
 use tileset_script::{ParsedScript, ScriptOptions, parse_script};
 
@@ -158,12 +156,8 @@ pub fn converted<S: TileStore, P: TileStore, M: Medium>(
             let said = OptionsOfSet::new(given.force, given.verify);
             convert(alloc, base, patches, coords, &said, medium)
         }
-        Options::Streamed => {
-            streamed(alloc, (base, patches), coords, &given, false, medium)
-        }
-        Options::Hashed => {
-            streamed(alloc, (base, patches), coords, &given, true, medium)
-        }
+        Options::Streamed => { streamed(alloc, (base, patches), coords, &given, false, medium) }
+        Options::Hashed => { streamed(alloc, (base, patches), coords, &given, true, medium) }
         Options::StreamedSet => {
             let said = OptionsOfSet::new(given.force, given.verify);
             streamed(alloc, (base, patches), coords, &said, false, medium)
