@@ -134,8 +134,8 @@ fn convert_hashed<S: TileStore, O: StreamOptions, M: Medium>(
     convert_held(alloc, base, set, coords, asked, writer, aggregate, medium)
 }
 
-/// Converts a set whose marks are held, with each content that isn't held read again and one of them in memory. Where its hash is to be
-/// verified, or wanted for itself (`hash`), each is read once more before, in the order of places.
+/// Converts a set whose marks are held, with each content that isn't held read again and one of them in memory. Where
+/// its hash is to be verified, or wanted for itself (`hash`), each is read once more before, in the order of places.
 pub(crate) fn convert_marked<S: TileStore, O: StreamOptions, M: Medium>(
     alloc: Global,
     base: &mut S,

@@ -135,8 +135,8 @@ fn has_contents(layout: MbtType, mark: &Mark, row: &Row) -> bool
     is_of(mark, row_bytes(layout, row, &null))
 }
 
-// The row that has the contents that a mark is of: of a tile, or of a normalised set that of its contents. `StoreChanged`
-// comes where there is no such row.
+// The row that has the contents that a mark is of: of a tile, or of a normalised set that of its contents.
+// `StoreChanged` comes where there is no such row.
 fn stored_row<S: TileStore>(
     alloc: Global,
     store: &mut S,
