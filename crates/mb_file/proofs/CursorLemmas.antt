@@ -60,12 +60,13 @@ not_both x n low high = grind (arith, ints)
 -- behind the first row from a rowid on are those from the next rowid on
 behind_first : (n : ℤ) (rows : List Stored) (r : Stored) (xs : List Stored) → Rise rows → from_cut (by_rowid n) rows ≡ r ∷ xs → from_cut (by_rowid (r.0 +ℤ pos 1)) rows ≡ xs
 behind_first n [] r xs rise e = absurd (let h = e in cc)
-behind_first n (x ∷ rows) r xs rise e = elim (cases_Bool (is_lt (int_cmp x.0 n)))
-    [ inl low ↦ let rest : from_cut (by_rowid n) rows ≡ r ∷ xs = rw low at e in
-        rw (below_next x.0 n r.0 low (first_from n rows r xs rest)) (behind_first n rows r xs rise.1 rest)
-    | inr high ↦ let h : x ∷ rows ≡ r ∷ xs = rw high at e in
-        let same : x ≡ r = cc in let others : rows ≡ xs = cc in
-        subst (λ y. from_cut (by_rowid (y.0 +ℤ pos 1)) (x ∷ rows) ≡ xs) same (rw (own_next x.0) (all_above rows rise.0 ∙ others)) ]
+behind_first n (x ∷ rows) r xs rise e = elim (cases_Bool (is_lt (int_cmp x.0 n))) [
+  | inl low ↦ let rest : from_cut (by_rowid n) rows ≡ r ∷ xs = rw low at e in
+      rw (below_next x.0 n r.0 low (first_from n rows r xs rest)) (behind_first n rows r xs rise.1 rest)
+  | inr high ↦ let h : x ∷ rows ≡ r ∷ xs = rw high at e in
+      let same : x ≡ r = cc in let others : rows ≡ xs = cc in
+      subst (λ y. from_cut (by_rowid (y.0 +ℤ pos 1)) (x ∷ rows) ≡ xs) same (rw (own_next x.0) (all_above rows rise.0 ∙ others))
+]
   where
     all_above : (ys : List Stored) → Each (λ y. int_lt x.0 y.0 ≡ true) ys → from_cut (by_rowid (x.0 +ℤ pos 1)) ys ≡ ys
     all_above [] above = refl
@@ -74,11 +75,12 @@ behind_first n (x ∷ rows) r xs rise e = elim (cases_Bool (is_lt (int_cmp x.0 n
 -- none is behind the row with the greatest rowid
 behind_last : (n : ℤ) (rows : List Stored) (r : Stored) (xs : List Stored) → Rise rows → Fit rows → from_cut (by_rowid n) rows ≡ r ∷ xs → ¬ (SFits w64 (r.0 +ℤ pos 1)) → xs ≡ []
 behind_last n [] r xs rise fit e most = absurd (let h = e in cc)
-behind_last n (x ∷ rows) r xs rise fit e most = elim (cases_Bool (is_lt (int_cmp x.0 n)))
-    [ inl low ↦ behind_last n rows r xs rise.1 fit.1 (rw low at e) most
-    | inr high ↦ let h : x ∷ rows ≡ r ∷ xs = rw high at e in
-        let same : x ≡ r = cc in let others : rows ≡ xs = cc in
-        sym others ∙ nothing rows rise.0 fit.1 (subst (λ y. ¬ (SFits w64 (y.0 +ℤ pos 1))) (sym same) most) ]
+behind_last n (x ∷ rows) r xs rise fit e most = elim (cases_Bool (is_lt (int_cmp x.0 n))) [
+  | inl low ↦ behind_last n rows r xs rise.1 fit.1 (rw low at e) most
+  | inr high ↦ let h : x ∷ rows ≡ r ∷ xs = rw high at e in
+      let same : x ≡ r = cc in let others : rows ≡ xs = cc in
+      sym others ∙ nothing rows rise.0 fit.1 (subst (λ y. ¬ (SFits w64 (y.0 +ℤ pos 1))) (sym same) most)
+]
   where
     nothing : (ys : List Stored) → Each (λ y. int_lt x.0 y.0 ≡ true) ys → Fit ys → ¬ (SFits w64 (x.0 +ℤ pos 1)) → ys ≡ []
     nothing [] above fits most = refl
@@ -102,7 +104,7 @@ module _ (layout : Layout) (usable : ℕ) (pages : PageMap) (rows : List Stored)
       → (left_of old rows ≡ row_of new ∷ left_of new rows) × IsAmong layout usable pages rows new
   first_taken old new mid n rise fit is filled took iff =
       let parts : from_cut (by_rowid n) rows ≡ row_of new ∷ (map as_row (left_in pages new.batch) ++ filled.rest) =
-          filled.parts ∙ ap (λ es. map as_row es ++ filled.rest) took.0 in
+      filled.parts ∙ ap (λ es. map as_row es ++ filled.rest) took.0 in
       let next : rows_from new.next rows ≡ map as_row (left_in pages new.batch) ++ filled.rest = noted new.next n rows (row_of new) _ rise fit parts iff in
       (ap (λ o. rows_from o rows) is ∙ parts ∙ ap (λ ys. row_of new ∷ ys) (sym next), record { valid = took.1; rest = filled.rest; parts = next })
 
@@ -113,8 +115,7 @@ module _ (layout : Layout) (usable : ℕ) (pages : PageMap) (rows : List Stored)
   none_taken old new mid n is ended filled took =
       let none : from_cut (by_rowid n) rows ≡ [] = filled.parts ∙ ap (λ es. map as_row es ++ filled.rest) took.0 ∙ filled.ends took.0 in
       let gone : rows_from new.next rows ≡ [] = ap (λ o. rows_from o rows) ended in
-      let held : left_in pages new.batch ≡ [] = ap (left_in pages) took.1 ∙ took.0 in
-      (
+      let held : left_in pages new.batch ≡ [] = ap (left_in pages) took.1 ∙ took.0 in (
         (ap (λ o. rows_from o rows) is ∙ none, gone),
         record { valid = subst (λ b. IsBatchOf layout usable b) (sym took.1) filled.valid; rest = []; parts = gone ∙ sym (ap (λ es. map as_row es ++ []) held) },
       )
@@ -124,7 +125,7 @@ module _ (layout : Layout) (usable : ℕ) (pages : PageMap) (rows : List Stored)
       → int_lt (as_row (taken new)).0 n ≡ true → ⊥
   never_below mid new n filled took low =
       let parts : from_cut (by_rowid n) rows ≡ as_row (taken new) ∷ (map as_row (left_in pages new) ++ filled.rest) =
-          filled.parts ∙ ap (λ es. map as_row es ++ filled.rest) took.0 in
+      filled.parts ∙ ap (λ es. map as_row es ++ filled.rest) took.0 in
       not_both (as_row (taken new)).0 n low (first_from n rows _ _ parts)
 
 -- a rowid as it is passed on

@@ -43,8 +43,8 @@ impl Cursor {
         ensures first { result.next ≡ Some i64.MIN }
         ensures among { (layout : Layout) (usable : ℕ) (pages : PageMap) (rows : _)
             → IsAmong layout usable pages rows result }
-        ensures left { (layout : Layout) (usable root : ℕ) (rows : _) → IsTable usable layout root rows
-            → left_of result rows ≡ rows }
+        ensures left { (layout : Layout) (usable root : ℕ) (rows : _)
+            → IsTable usable layout root rows → left_of result rows ≡ rows }
     {
         Cursor {
             batch: Batch::new(alloc),
