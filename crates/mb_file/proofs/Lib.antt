@@ -1,4 +1,9 @@
+mod CursorLemmas
 mod FaultLemmas
 mod FindLemmas
+mod MarkLemmas
 mod MetadataLemmas
+mod NumberLemmas
 mod PageLemmas
+mod RecordLemmas
+mod RowLemmas

@@ -1,7 +1,7 @@
 -- The pages of a database and its log, without the bytes that are reserved at their end.
-use Rattle.std.specs.Prelude.{ℕ, List, take}
+use Rattle.std.specs.Prelude.{ℕ, IsTrue, List, take}
 use Rattle.sqlite_disk.specs.declared.Disk.{Ghosts}
-use Rattle.sqlite_pager.specs.Pager.{current, visible}
+use Rattle.sqlite_pager.specs.Pager.{current, state, visible}
 use Rattle.sqlite_pages.specs.PageMap.{PageMap}
 use Rattle.sqlite_pool.specs.Stored.{trimmed}
 use Rattle.mb_file.specs.declared.pages.FilePages.{FilePages}
@@ -12,3 +12,7 @@ module _ {D : Type 0} {g : Ghosts D} where
 
   abbrev pub current_of : FilePages D g → List ℕ
   current_of it = take it.usable (current it.pager)
+
+  -- nothing has failed that asks for a new opening
+  abbrev pub IsReady : FilePages D g → Type 0
+  IsReady it = IsTrue (state it.pager).is_ready

@@ -1,4 +1,11 @@
+pub mod Course
+pub mod Cursor
 pub mod Errors
 pub mod Faults
 pub mod FilePages
 pub mod KeyOrder
+pub mod Numbers
+pub mod Record
+pub mod RowAt
+pub mod SetTable
+pub mod Source

@@ -1,11 +1,19 @@
 // The test that pages are a sound tree of a table: a scan of such a tree leaves no row out.
-ghost use Rattle.std.specs.Prelude.{◌↔◌, IsTrue};
+ghost use Rattle.std.specs.Prelude.{◌↔◌, ◌≡◌, IsTrue, None, Some};
+ghost use Rattle.sqlite_btree.specs.Calls.Check.{FindsIndex, FindsTable, PassesTable};
+ghost use Rattle.sqlite_btree.specs.Check.{KeepsMarks};
+ghost use Rattle.sqlite_pages.specs.Calls.{Continues, NamesDamage};
+ghost use Rattle.sqlite_record.specs.Strict as strict;
+ghost use Rattle.mb_file.specs.FilePages.{pages_of};
+ghost use Rattle.mb_file.specs.KeyOrder.{record_below};
+ghost use Rattle.mb_file.specs.Source.{IsSameSource};
 
 use crate::key_order::KeyOrder;
+use crate::pages::FilePages;
 use crate::source::Source;
 use sqlite_btree::{PayloadTest, check};
 use sqlite_disk::Disk;
-use sqlite_pages::Error;
+use sqlite_pages::{Error, Pages};
 use sqlite_record::check::is_record;
 use std::alloc::Global;
 
@@ -27,7 +35,18 @@ pub(crate) fn test_tree<D: Disk>(
     alloc: Global,
     source: &mut Source<D>,
     root: u32,
-) -> Result<(), Error> {
+) -> Result<(), Error>
+    ensures sound { FindsTable ⟦<FilePages<D> as Pages>⟧ source.old.pages source.new.pages
+        strict.IsRecord source.old.taken.items source.new.taken.items root result }
+    ensures complete { PassesTable ⟦<FilePages<D> as Pages>⟧ source.old.pages source.new.pages
+        strict.IsRecord source.old.taken.items source.new.taken.items root result }
+    ensures keeps { KeepsMarks source.old.taken.items source.new.taken.items }
+    ensures honest { NamesDamage ⟦<FilePages<D> as Pages>⟧ source.old.pages source.new.pages ⊥
+        result }
+    ensures kept { Continues ⟦<FilePages<D> as Pages>⟧ source.old.pages source.new.pages }
+    ensures pages { pages_of source.new.pages ≡ pages_of source.old.pages }
+    ensures same { IsSameSource source.old source.new }
+{
     check::table(
         &mut source.pages,
         alloc,
@@ -43,7 +62,20 @@ pub(crate) fn test_table<D: Disk>(
     source: &mut Source<D>,
     root: u32,
     key: Option<usize>,
-) -> Result<(), Error> {
+) -> Result<(), Error>
+    ensures sound { key ≡ None
+        → FindsTable ⟦<FilePages<D> as Pages>⟧ source.old.pages source.new.pages
+        strict.IsRecord source.old.taken.items source.new.taken.items root result }
+    ensures ordered { (columns : _) → key ≡ Some columns
+        → FindsIndex ⟦<FilePages<D> as Pages>⟧ source.old.pages source.new.pages strict.IsRecord
+        (record_below columns) source.old.taken.items source.new.taken.items root result }
+    ensures keeps { KeepsMarks source.old.taken.items source.new.taken.items }
+    ensures honest { NamesDamage ⟦<FilePages<D> as Pages>⟧ source.old.pages source.new.pages ⊥
+        result }
+    ensures kept { Continues ⟦<FilePages<D> as Pages>⟧ source.old.pages source.new.pages }
+    ensures pages { pages_of source.new.pages ≡ pages_of source.old.pages }
+    ensures same { IsSameSource source.old source.new }
+{
     let Some(columns) = key else {
         return test_tree(alloc, source, root);
     };

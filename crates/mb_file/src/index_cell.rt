@@ -1,5 +1,6 @@
 // The records of an index tree, which is what a table WITHOUT ROWID is.
 ghost use Rattle.std.specs.Prelude.{◌≡◌, IfOk, length};
+ghost use Rattle.sqlite_pages.specs.Calls.{Continues};
 ghost use Rattle.sqlite_pages.specs.PageMap.{IsUsableSize};
 
 use sqlite_format::bytes::get_u32;
@@ -50,10 +51,13 @@ pub(crate) fn append_rest<P: Pages>(
     pages: &mut P,
     rest: Rest,
     record: &mut Vec<u8>,
-) -> Result<(), Error> {
+) -> Result<(), Error>
+    ensures kept { Continues P.Pages pages.old pages.new }
+    ensures pages { P.Pages.pages pages.new ≡ P.Pages.pages pages.old }
+{
     let mut page = rest.page;
     let mut left = rest.length;
-    for _ in 0..u64::MAX {
+    'pages: for _ in 0..u64::MAX {
         if left == 0 {
             return Ok(());
         }
@@ -80,7 +84,10 @@ pub(crate) fn record_at<P: Pages>(
     pages: &mut P,
     place: i64,
     record: &mut Vec<u8>,
-) -> Result<(), Error> {
+) -> Result<(), Error>
+    ensures kept { Continues P.Pages pages.old pages.new }
+    ensures pages { P.Pages.pages pages.new ≡ P.Pages.pages pages.old }
+{
     let Ok(place) = u64::try_from(place) else {
         return Err(Error::Corrupt);
     };

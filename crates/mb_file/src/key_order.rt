@@ -36,9 +36,9 @@ fn is_below(columns: usize, first: Fields<'_>, second: Fields<'_>) -> bool
 }
 
 impl RecordOrder for KeyOrder {
-    ghost use Rattle.sqlite_record.specs.Record.{decode};
+    ghost use Rattle.mb_file.specs.KeyOrder.{record_below};
 
-    ghost order = { λ it first second. is_below it.columns (decode first) (decode second) };
+    ghost order = { λ it. record_below it.columns };
 
     fn is_before(&self, first: &[u8], second: &[u8]) -> bool {
         is_below(self.columns, Fields::new(first), Fields::new(second))

@@ -1,5 +1,8 @@
 // Keys of rows as numbers, so that a list of rows by their keys takes 16 bytes a row.
-ghost use Rattle.std.specs.Prelude.{◌≡◌};
+ghost use Rattle.std.specs.Prelude.{◌≡◌, true, length};
+ghost use Rattle.mb_tables.specs.Key.{has_key};
+ghost use Rattle.mb_tables.specs.Table.{width};
+ghost use Rattle.mb_file.specs.Numbers.{number_of_key, number_of_row, place_number};
 
 use mb_tables::{Cell, Row, RowKey};
 use sqlite_disk::digest_of;
@@ -15,7 +18,9 @@ pub(crate) struct Numbered {
 
 // The number of a place of zoom 0 to 30, its column and row below two to the zoom; None of another one. No
 // two places have one number.
-pub(crate) fn place_number(zoom: i64, column: i64, row: i64) -> Option<u64> {
+pub(crate) fn place_number(zoom: i64, column: i64, row: i64) -> Option<u64>
+    ensures { result ≡ place_number zoom column row }
+{
     let zoom = u32::try_from(zoom).ok()?;
     let column = u64::try_from(column).ok()?;
     let row = u64::try_from(row).ok()?;
@@ -32,7 +37,9 @@ pub(crate) fn place_number(zoom: i64, column: i64, row: i64) -> Option<u64> {
 }
 
 // The number of a row's key, None where a cell of it is null. Two texts may have one number.
-pub(crate) fn number_of_row(secret: u64, row: &Row) -> Option<u64> {
+pub(crate) fn number_of_row(secret: u64, row: &Row) -> Option<u64>
+    ensures { result ≡ number_of_row secret row.now }
+{
     match row.cells() {
         [Cell::Int(zoom), Cell::Int(column), Cell::Int(line), _, ..] => {
             place_number(*zoom, *column, *line)
@@ -44,7 +51,11 @@ pub(crate) fn number_of_row(secret: u64, row: &Row) -> Option<u64> {
 }
 
 // The number of a key, None where no row has it.
-pub(crate) fn number_of_key(secret: u64, key: &RowKey) -> Option<u64> {
+pub(crate) fn number_of_key(secret: u64, key: &RowKey) -> Option<u64>
+    ensures number { result ≡ number_of_key secret key.now }
+    ensures same { (table : _) (row : _) → length row ≡ width table
+        → has_key table key.now row ≡ true → number_of_row secret row ≡ result }
+{
     match key {
         RowKey::Tile { zoom, column, row } => {
             place_number(i64::from(*zoom), i64::from(*column), i64::from(*row))

@@ -1,5 +1,5 @@
 // The pages of a database and its log, which are only read.
-ghost use Rattle.std.specs.Prelude.{◌≡◌, ◌≤◌, IfOk};
+ghost use Rattle.std.specs.Prelude.{◌≡◌, ◌≤◌, IfOk, IsTrue};
 ghost use Rattle.sqlite_pages.specs.PageMap.{IsUsableSize};
 ghost use Rattle.sqlite_pager.specs.Pager.{AreUsable, state};
 ghost use Rattle.sqlite_pool.specs.Report.{reported};
@@ -82,6 +82,7 @@ fn recover<D: Disk>(pager: &mut Pager<D>) -> Result<usize, FileError>
     ensures size { (state pager.new).page_size ≡ (state pager.old).page_size }
     ensures used { IfOk result (λ usable. usable ≤ (state pager.old).page_size) }
     ensures usable { IfOk result IsUsableSize }
+    ensures ready { IfOk result (λ _. IsTrue (state pager.new).is_ready) }
 {
     if let Err(error) = pager.recover() {
         return Err(refused(error));
@@ -121,13 +122,17 @@ fn pager_of<D: Disk + Drop>(
 }
 
 impl<D: Disk + Drop> FilePages<D> {
+    ghost use Rattle.mb_file.specs.FilePages.{IsReady};
+
     // The pages that a file and its log stand for, of which at most so many are kept in memory once they are read.
     // Nothing but the log is written.
     pub(crate) fn open(
         alloc: Global,
         mut files: Files<D>,
         cache_pages: usize,
-    ) -> Result<FilePages<D>, FileError> {
+    ) -> Result<FilePages<D>, FileError>
+        ensures ready { IfOk result IsReady }
+    {
         let (size, held) = match sizes(&mut files, cache_pages) {
             Ok(sizes) => sizes,
             Err(error) => return Err(error),
@@ -144,8 +149,14 @@ impl<D: Disk + Drop> FilePages<D> {
 const LOCK: usize = 0x4000_0000;
 
 impl<D: Disk> FilePages<D> {
+    ghost use Rattle.sqlite_btree.specs.Check.{MarksFree};
+    ghost use Rattle.mb_file.specs.FilePages.{pages_of};
+
     // A flag for each page, set where no tree can have it.
-    pub(crate) fn taken(&self, alloc: Global) -> Result<Vec<bool>, AllocError> {
+    pub(crate) fn taken(&self, alloc: Global) -> Result<Vec<bool>, AllocError>
+        ensures live { IsTrue (state self.now.pager).is_open
+            → IfOk result (λ marks. MarksFree marks.items (pages_of self.now)) }
+    {
         let lock = LOCK / self.pager.page_size().max(1) + 1;
         let mut taken = Vec::new(alloc);
         taken.push(true)?;

@@ -1,8 +1,14 @@
 // What the tables of a set are read from.
+ghost use Rattle.std.specs.Prelude.{◌≡◌, IfOk};
+ghost use Rattle.sqlite_btree.specs.Check.{MarksFree};
+ghost use Rattle.sqlite_pages.specs.Calls.{IsClean};
+ghost use Rattle.mb_file.specs.FilePages.{IsReady, pages_of};
+
 use crate::pages::FilePages;
 use mb_reading::LeftOut;
 use sqlite_btree::Scratch;
 use sqlite_disk::Disk;
+use sqlite_pages::Pages;
 use std::alloc::{AllocError, Global};
 
 #[derive(Drop)]
@@ -24,7 +30,12 @@ impl<D: Disk + Drop> Source<D> {
         alloc: Global,
         pages: FilePages<D>,
         secret: u64,
-    ) -> Result<Source<D>, AllocError> {
+    ) -> Result<Source<D>, AllocError>
+        ensures pages { IfOk result (λ source. source.pages ≡ pages) }
+        ensures secret { IfOk result (λ source. source.secret ≡ secret) }
+        ensures live { IsReady pages → IsClean ⟦<FilePages<D> as Pages>⟧ pages
+            → IfOk result (λ source. MarksFree source.taken.items (pages_of pages)) }
+    {
         let taken = pages.taken(alloc)?;
         Ok(Source {
             pages,

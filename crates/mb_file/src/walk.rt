@@ -1,5 +1,6 @@
 // A place in the rows of a table WITHOUT ROWID, in the order of its key.
 ghost use Rattle.std.specs.Prelude.{◌≡◌};
+ghost use Rattle.sqlite_pages.specs.Calls.{Continues};
 
 use crate::index_cell::{append_rest, cell_place, index_node, take_local};
 use sqlite_format::Node;
@@ -83,7 +84,10 @@ impl Walk {
     }
 
     // Copies a page, unless it is at hand.
-    fn hold<P: Pages>(&mut self, pages: &mut P, page: u32) -> Result<(), Error> {
+    fn hold<P: Pages>(&mut self, pages: &mut P, page: u32) -> Result<(), Error>
+        ensures kept { Continues P.Pages pages.old pages.new }
+        ensures pages { P.Pages.pages pages.new ≡ P.Pages.pages pages.old }
+    {
         if page < 2 {
             return Err(Error::Corrupt);
         }
@@ -113,7 +117,10 @@ impl Walk {
     }
 
     // Takes the row of a cell of the page that is held.
-    fn read<P: Pages>(&mut self, pages: &mut P, cell: usize) -> Result<(), Error> {
+    fn read<P: Pages>(&mut self, pages: &mut P, cell: usize) -> Result<(), Error>
+        ensures kept { Continues P.Pages pages.old pages.new }
+        ensures pages { P.Pages.pages pages.new ≡ P.Pages.pages pages.old }
+    {
         if self.page.len() != pages.loaded().len() {
             return Err(Error::Corrupt);
         }
@@ -126,7 +133,10 @@ impl Walk {
     }
 
     // What the step of a level comes to.
-    fn turn<P: Pages>(&mut self, pages: &mut P, level: Level) -> Result<Turn, Error> {
+    fn turn<P: Pages>(&mut self, pages: &mut P, level: Level) -> Result<Turn, Error>
+        ensures kept { Continues P.Pages pages.old pages.new }
+        ensures pages { P.Pages.pages pages.new ≡ P.Pages.pages pages.old }
+    {
         self.hold(pages, level.page)?;
         if self.page.len() != pages.loaded().len() {
             return Err(Error::Corrupt);
@@ -136,8 +146,11 @@ impl Walk {
     }
 
     // Goes on to the next row, and says whether there is one.
-    fn go_on<P: Pages>(&mut self, pages: &mut P, path: &mut Vec<Level>) -> Result<bool, Error> {
-        for _ in 0..u64::MAX {
+    fn go_on<P: Pages>(&mut self, pages: &mut P, path: &mut Vec<Level>) -> Result<bool, Error>
+        ensures kept { Continues P.Pages pages.old pages.new }
+        ensures pages { P.Pages.pages pages.new ≡ P.Pages.pages pages.old }
+    {
+        'steps: for _ in 0..u64::MAX {
             let Some(level) = path.pop() else {
                 return Ok(false);
             };
@@ -166,7 +179,10 @@ impl Walk {
     }
 
     // Takes the next row, and says whether there was one. After a failure it begins at the first row.
-    pub(crate) fn advance<P: Pages>(&mut self, pages: &mut P, root: u32) -> Result<bool, Error> {
+    pub(crate) fn advance<P: Pages>(&mut self, pages: &mut P, root: u32) -> Result<bool, Error>
+        ensures kept { Continues P.Pages pages.old pages.new }
+        ensures pages { P.Pages.pages pages.new ≡ P.Pages.pages pages.old }
+    {
         let mut path = self.take_path(root)?;
         let found = self.go_on(pages, &mut path)?;
         self.path = Some(path);
@@ -174,7 +190,9 @@ impl Walk {
     }
 
     // How many rows were taken.
-    pub(crate) fn count(&self) -> i64 {
+    pub(crate) fn count(&self) -> i64
+        ensures { result ≡ self.now.count }
+    {
         self.count
     }
 
@@ -184,7 +202,9 @@ impl Walk {
     }
 
     // Its record.
-    pub(crate) fn record(&self) -> &[u8] {
+    pub(crate) fn record(&self) -> &[u8]
+        ensures { result.now ≡ self.now.record.items }
+    {
         self.record.as_slice()
     }
 }
