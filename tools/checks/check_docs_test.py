@@ -28,7 +28,7 @@ PLANTS = (
     ("a clause of another crate", proofs, "docs/PROOFS.md", "`valid` of `TileCoord::new`", "`hidden` of `TileCoord::new`", "no hidden in `tile_ids`"),
     ("a function of another crate", proofs, "docs/PROOFS.md", "`value` of `hilbert_number`", "`value` of `finalize`", "no finalize in `tile_ids`"),
     ("a call of another crate beside those of the original", differences, "docs/DIFFERENCES.md", "`subtree_interval`", "`subtree_of`", "no subtree_of in the section's crates"),
-    ("a name of another crate", names, "docs/ARCHITECTURE.md", "`mb_reading` reads each file", "`mb_sqlite` reads each file", "no read_file in mb_sqlite"),
+    ("a name of another crate", names, "docs/ARCHITECTURE.md", "`mb_reading` reads each patch", "`mb_sqlite` reads each patch", "no read_file in mb_sqlite"),
     ("a path of names that isn't there", names, "README.md", "`tileset::run`", "`tileset::runs`", "no tileset::runs"),
     ("a name that is defined nowhere", names, "docs/ARCHITECTURE.md", "`make_adds`", "`make_add`", "make_add is defined nowhere"),
     ("a method of another type", names, "docs/LIBRARY.md", "`PmTilesWriter::start`", "`PmTilesWriter::open`", "no open in PmTilesWriter"),
