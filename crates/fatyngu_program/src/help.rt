@@ -138,10 +138,10 @@ const JOIN: &str = "usage: fatyngu join IN.pmtiles .. OUT.pmtiles [--overwrite] 
 
 Writes the archive of the tiles of several archives. Where two have a tile, the
 later one counts, so that an archive of changes comes behind the one that it is
-for. All have to have tiles of one type and one compression; zooms, bounds and
-center, and the metadata, are those of the last. OUT is written beside its
-place, as OUT.new, and put there once it is whole. Memory holds the entries of
-the archives, and one content at a time. There may be 1000 of them.
+for. All have to have tiles of one type and one compression. OUT says the zooms
+and the bounds of all of them, and the center and the metadata of the last. It
+is written beside its place, as OUT.new, and put there once it is whole. Memory
+holds the entries of the archives, and one content at a time. There may be 1000.
 
 --overwrite    replaces OUT where it is there; without it that is refused
 --max-tiles N  how many tiles OUT may have, 10000000 where nothing is said
