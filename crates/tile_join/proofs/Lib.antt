@@ -1,0 +1,9 @@
+mod Common
+pub mod OverLemmas
+pub mod SourceLemmas
+pub mod FindLemmas
+pub mod GatherLemmas
+pub mod PieceLemmas
+pub mod FinishLemmas
+pub mod CountLemmas
+pub mod PartLemmas
