@@ -1,7 +1,7 @@
 -- What the crate's proofs name of the crates below and of its specs, passed on from one place. Declares nothing.
 pub use Rattle.byte_media.proofs.KeptLemmas.{medium_same, medium_then, reads_then}
 pub use Rattle.pm_format.specs.declared.error.PmtError.{PmtError}
-pub use Rattle.pm_reader.specs.Answers.{range_read, RangeCauses}
+pub use Rattle.pm_reader.specs.Answers.{Gives, range_read, RangeCauses}
 pub use Rattle.pm_reader.specs.declared.state.ReaderState.{ReaderState}
 pub use Rattle.pm_writer.proofs.Canonical.{canon_is, entries_sorted}
 pub use Rattle.pm_writer.proofs.Sorted.{adds_distinct, sorted_formed, tile_found}
@@ -17,6 +17,7 @@ pub use Rattle.std.proofs.lemmas.Bool.{and_from, and_parts, true≢false}
 pub use Rattle.std.proofs.lemmas.Bool.Decides.{nat_tests}
 pub use Rattle.std.proofs.lemmas.List.{append-nil, append_assoc, drop_all, drop_more, get_or-map, get_or-set_other, get_or-set_same, length-append, length-map, length-set, map-append, map-set}
 pub use Rattle.std.proofs.lemmas.List.Elements.{All-get_or, All-set}
+pub use Rattle.std.specs.Option.{option_map}
 pub use Rattle.std.proofs.lemmas.Option.{none-some, same_Some, slice_get-get_or, slice_get-map}
 pub use Rattle.tile_join.specs.Common.{ArchivePlaces, IsHidden, places_of, places_read, add_to, has_failed, ids_of, Puts, PutsAll, Took, ByRoom, EndsBy, Rises, put_all}
 pub use Rattle.tile_join.specs.Common.{Adds, AreOrdered, Entry, entry, Header, header_of, KeepsMedium, MAX_TILE_ID, Opened, Options, ReadCauses, ReadsOnly, root_of, Rose, StandsAtError, tile_count, Walked, Writes, WriterState}
@@ -31,3 +32,6 @@ pub use Rattle.tile_join.specs.Written.{IsWritten, IsArchiveOf, PiecesOverflow, 
 pub use Rattle.tile_join.specs.declared.error.JoinError.{JoinError}
 pub use Rattle.tile_join.specs.declared.error.JoinError.TheVariants.{Archive, Different, IndexEntryOverflow, MediumFault, MediumNotEmpty, NoSource, OutOfMemory, TooManyTiles}
 pub use Rattle.tile_join.specs.declared.piece.Piece.{Piece}
+pub use Rattle.tile_join.specs.Headers.{IsAlike, options_for, over_header, over_headers, UnlikeAt}
+pub use Rattle.tile_join.specs.Join.{Due, IsEarly, last_of, Read}
+pub use Rattle.tile_join.specs.Opening.{IsLastText, IsPlanned, PlanCauses, TextRead, TextRefused}

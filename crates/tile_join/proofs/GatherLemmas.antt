@@ -1,9 +1,11 @@
 -- What is found of sources, one after another.
 use Rattle.tile_join.proofs.Common.{all_told, ap, Archive, AreOnlyRead, arith, Different, drop, drop_all, Err, FindCauses, find_reads, found, gather_reads, GatherCauses, gathered, Gathered, gathered_from, gathered_of, get_or, get_or-map, IfErr, IfSome}
 use Rattle.tile_join.proofs.Common.{IndexEntryOverflow, InOrder, IsAdded, JoinError, length, length-map, List, map, MediumFault, MediumNotEmpty, none_yet, NoSource, Ok, Option, OutOfMemory, Piece, ReadCauses, ReaderState, ReadsOnly, refl, Refuses, Result, set, slice_index}
-use Rattle.tile_join.proofs.Common.{chain, Some, SourcesStand, SourceStands, StandsAtError, subst, sym, TooManyTiles, total, with_source, ℕ, [], ◌+◌, ◌<◌, ◌∙◌, ◌∷◌, ◌≡◌, ◌≤◌}
+use Rattle.tile_join.proofs.Common.{chain, Some, SourceStands, StandsAtError, subst, sym, TooManyTiles, total, with_source, ℕ, [], ◌+◌, ◌<◌, ◌∙◌, ◌∷◌, ◌≡◌, ◌≤◌}
 use Rattle.pm_format.specs.declared.error.PmtError.TheVariants as errors
 use Rattle.pm_format.specs.declared.error.ReadCause.TheVariants as causes
+use Rattle.tile_join.proofs.Common.{AreOrdered, Entry, header_of, map-append, SourcesStandAt, None, numbered, over, ◌++◌}
+use Rattle.tile_join.proofs.OverLemmas.{over_ordered}
 use Rattle.tile_join.proofs.SourceLemmas.{all_then, as_many, as_told, if_told, mapped_at, mapped_now, none_read, one_read, reads_grow, sources_at, tells_at, told_at, told_long, where_told}
 
 -- what follows for a refusal
@@ -25,8 +27,8 @@ pub record GatheredSoFar {B V : Type 0} (tells : B → Option (List ℕ)) (texts
   pub ordered : InOrder n 0 pieces
 
 module _ {B V : Type 0} (tells : B → Option (List ℕ)) (texts : B → V) (failed reads : B → ℕ) (steady : B → Type 0) (most : ℕ) where
-  pub gathered_none : (old : List B) → GatheredSoFar tells texts failed reads steady most old old 0 [] []
-  gathered_none old = record {
+  nothing_gathered : (old : List B) → GatheredSoFar tells texts failed reads steady most old old 0 [] []
+  nothing_gathered old = record {
     read = none_read tells texts failed steady old;
     still = refl;
     rest = where_told (λ bs. gathered_from most 0 (gathered_of [] []) (drop 0 bs) ≡ gathered most bs) (all_told (map tells old)) (λ bs is. refl);
@@ -34,6 +36,10 @@ module _ {B V : Type 0} (tells : B → Option (List ℕ)) (texts : B → V) (fai
     many = refl;
     ordered = omega arith;
   }
+
+  pub gathered_none : (old : List B) (readers : List ReaderState) (pieces : List Piece) → readers ≡ [] → pieces ≡ [] → GatheredSoFar tells texts failed reads steady most old old 0 readers pieces
+  gathered_none old readers pieces r p =
+      subst (λ l. GatheredSoFar tells texts failed reads steady most old old 0 l pieces) (sym r) (subst (GatheredSoFar tells texts failed reads steady most old old 0 []) (sym p) (nothing_gathered old))
 
   module _ (old now : List B) (n : ℕ) (readers : List ReaderState) (pieces : List Piece) (so : GatheredSoFar tells texts failed reads steady most old now n readers pieces) (x y : B) (low : n < length now) (is : x ≡ get_or now n x) (kept : ReadsOnly tells texts failed steady x y) where
     abbrev after : List B
@@ -103,8 +109,8 @@ module _ {B V : Type 0} (tells : B → Option (List ℕ)) (texts : B → V) (fai
     number_is : (e : JoinError) → FindCauses most (length readers) (failed x) (failed y) e → (k : ℕ) (z : _) → ◌≡◌ {A = Result ℕ JoinError} (Err e) (Err (Archive k z)) → k ≡ n
     number_is e c k z same = let at : e ≡ Archive k z = cc in (subst (FindCauses most (length readers) (failed x) (failed y)) at c).0 ∙ so.many
 
-    pub gather_stands : {A : Type 0} (e : JoinError) → FindCauses most (length readers) (failed x) (failed y) e → SourceStands {A = ℕ} (failed x) (failed y) (Err e) → SourcesStand {A = A} (map failed old) (map failed after) (Err e)
-    gather_stands e c stands = subst (λ l. SourcesStand {A = ℕ} l (map failed after) (Err e)) so.still (sources_at tells texts failed reads steady now n x y low is (Err e) (number_is e c) stands)
+    pub gather_stands : (e : JoinError) → FindCauses most (length readers) (failed x) (failed y) e → SourceStands {A = ℕ} (failed x) (failed y) (Err e) → SourcesStandAt (map failed old) (map failed after) e
+    gather_stands e c stands = subst (λ l. SourcesStandAt l (map failed after) e) so.still (sources_at tells texts failed reads steady now n x y low is (Err e) (number_is e c) stands)
 
 -- all of them
 module _ {B V : Type 0} (tells : B → Option (List ℕ)) (texts : B → V) (failed reads : B → ℕ) (steady : B → Type 0) (most : ℕ) (old now : List B) (n : ℕ) (readers : List ReaderState) (pieces : List Piece) (so : GatheredSoFar tells texts failed reads steady most old now n readers pieces) (far : length now ≤ n) where
@@ -122,3 +128,20 @@ pub no_more_reads : {B : Type 0} (tells : B → Option (List ℕ)) (reads : B �
 no_more_reads tells reads old now n count =
     if_told (λ bs. total (map reads now) + gather_reads (drop n bs) ≤ total (map reads old) + gather_reads bs) (λ bs. total (map reads now) ≤ total (map reads old) + gather_reads bs) (all_told (map tells old))
     (λ bs told c. omega (arith, c)) count
+
+-- one more source, in the words of the code
+pub told_added : (most n k : ℕ) (told : Option (List ℕ)) (readers more : List ReaderState) (pieces laid : List Piece) (s : ReaderState) (es items : List Entry) → k ≡ n → more ≡ readers ++ s ∷ [] → items ≡ es → laid ≡ over 0 (numbered k items) pieces → IfSome told (λ b. found most k b ≡ Ok (header_of s, es))
+    → IfSome told (λ b. IsAdded most n b (gathered_of readers pieces) (gathered_of more laid))
+told_added most n k None readers more pieces laid s es items number pushed same is one = tt
+told_added most n k (Some b) readers more pieces laid s es items number pushed same is one = record {
+  source = (header_of s, es);
+  found = ap (λ j. found most j b) (sym number) ∙ one;
+  with = λ i. record {
+    headers = (ap (map header_of) pushed ∙ map-append header_of readers (s ∷ [])) i;
+    pieces = (is ∙ ap (λ l. over 0 (numbered k l) pieces) same ∙ ap (λ j. over 0 (numbered j es) pieces) number) i;
+  };
+}
+
+pub laid_ordered : (n k : ℕ) (es items : List Entry) (pieces laid : List Piece) → k ≡ n → items ≡ es → laid ≡ over 0 (numbered k items) pieces → AreOrdered 0 es None → InOrder n 0 pieces → InOrder (n + 1) 0 laid
+laid_ordered n k es items pieces laid number same is order below =
+    subst (InOrder (n + 1) 0) (sym (is ∙ ap (λ l. over 0 (numbered k l) pieces) same ∙ ap (λ j. over 0 (numbered j es) pieces) number)) (over_ordered n 0 0 es pieces (omega arith) order below)

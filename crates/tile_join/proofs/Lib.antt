@@ -7,3 +7,6 @@ pub mod PieceLemmas
 pub mod FinishLemmas
 pub mod CountLemmas
 pub mod PartLemmas
+pub mod HeaderLemmas
+pub mod OneLemmas
+pub mod PlanLemmas

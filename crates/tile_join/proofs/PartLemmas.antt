@@ -33,20 +33,17 @@ comes_in map below [] [] id are none lies = absurd (true≢false (sym lies))
 comes_in map below [] (p ∷ ps) id are none lies = absurd are
 comes_in map below (b ∷ bs) [] id are none lies = absurd are
 comes_in map below (b ∷ bs) (p ∷ ps) id are none lies =
-    by (in_intervals id p.intervals) refl (λ empty later. comes_in map next bs ps id are.1 empty later) lies
+    by (in_intervals id p.intervals) refl (λ empty later. comes_in map (λ n. over_tile (archive_map b n) (below n)) bs ps id are.1 empty later) lies
   where
-    abbrev next : ℕ → Option (List ℕ)
-    next n = over_tile (archive_map b n) (below n)
-
-    at : next id ≡ over_tile (cut map p id) None
+    at : over_tile (archive_map b id) (below id) ≡ over_tile (cut map p id) None
     at = ap (λ o. over_tile o (below id)) (are.0 id) ∙ ap (over_tile (cut map p id)) none
 
     some_over : (o : Option (List ℕ)) → over_tile o None ≡ o
     some_over None = refl
     some_over (Some x) = refl
 
-    by : (t : Bool) → in_intervals id p.intervals ≡ t → (next id ≡ None → in_parts id ps ≡ true → joined_over next bs id ≡ map id) → (t || in_parts id ps) ≡ true → joined_over next bs id ≡ map id
-    by true in_it later lies = stays map next bs ps id are.1 (at ∙ some_over (cut map p id) ∙ ap (λ t. if t then map id else None) in_it)
+    by : (t : Bool) → in_intervals id p.intervals ≡ t → (over_tile (archive_map b id) (below id) ≡ None → in_parts id ps ≡ true → joined_over (λ n. over_tile (archive_map b n) (below n)) bs id ≡ map id) → (t || in_parts id ps) ≡ true → joined_over (λ n. over_tile (archive_map b n) (below n)) bs id ≡ map id
+    by true in_it later lies = stays map (λ n. over_tile (archive_map b n) (below n)) bs ps id are.1 (at ∙ some_over (cut map p id) ∙ ap (λ t. if t then map id else None) in_it)
     by false out later lies = later (at ∙ some_over (cut map p id) ∙ ap (λ t. if t then map id else None) out) lies
 
 pub joins : (map : ℕ → Option (List ℕ)) (bs : List (List ℕ)) (parts : List TilePart) → ArePartsOf map bs parts → Cover map parts → (id : ℕ) → joined bs id ≡ map id

@@ -17,7 +17,7 @@ pub as_told : {A : Type 0} (P : A → Type 0) (told : Option A) (a : A) → told
 as_told P told a is p = subst (λ o. IfSome o P) is p
 
 -- where all tell, each does
-record IsToldAt (ts : List (Option (List ℕ))) (bs : List (List ℕ)) (n : ℕ) (d : Option (List ℕ)) : Type 0 where
+pub record IsToldAt (ts : List (Option (List ℕ))) (bs : List (List ℕ)) (n : ℕ) (d : Option (List ℕ)) : Type 0 where
   pub one : get_or ts n d ≡ Some (get_or bs n [])
   pub rest : drop n bs ≡ get_or bs n [] ∷ drop (n + 1) bs
 
@@ -107,7 +107,7 @@ module _ {B V : Type 0} (tells : B → Option (List ℕ)) (texts : B → V) (fai
   pub others_stand : OthersStand n (map failed now) (map failed after)
   others_stand = λ j other. ap (λ l. slice_index l j) (map-set failed now n y) ∙ get_or-set_other (map failed now) n j (failed y) 0 other
 
-  stand_all : failed y ≡ failed x → map failed after ≡ map failed now
+  pub stand_all : failed y ≡ failed x → map failed after ≡ map failed now
   stand_all same = map-set_same failed now n y x (same ∙ ap failed is)
 
   pub sources_at : {A : Type 0} (r : Result A JoinError) → ((k : ℕ) (e : _) → r ≡ Err (Archive k e) → k ≡ n) → SourceStands (failed x) (failed y) r → SourcesStand (map failed now) (map failed after) r

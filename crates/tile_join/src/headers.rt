@@ -1,5 +1,6 @@
 // What the joined archive says beside its tiles.
 ghost use Rattle.std.specs.Prelude.{◌≡◌, All, IfOk, IfErr, IsTrue, ◌↔◌, ℕ, map};
+ghost use Rattle.std.specs.Int.{int_max, int_min};
 ghost use Rattle.tile_join.specs.Common.{header_of};
 ghost use Rattle.tile_join.specs.Headers.{IsAlike, UnlikeAt, options_for, over_header, over_headers};
 
@@ -10,6 +11,20 @@ use pm_reader::ReaderState;
 use pm_writer::PmTilesWriter;
 use tile_extract::{IdIntervals, TilePart, part_options};
 
+// The lesser of two numbers of degrees.
+fn least(one: i32, other: i32) -> i32
+    ensures { result ≡ int_min one other }
+{
+    one.min(other)
+}
+
+// The greater one.
+fn greatest(one: i32, other: i32) -> i32
+    ensures { result ≡ int_max one other }
+{
+    one.max(other)
+}
+
 // A header with the zooms and the bounds of another one beside its own.
 fn over_header(header: Header, other: &Header) -> Header
     ensures { result ≡ over_header header other.now }
@@ -17,10 +32,10 @@ fn over_header(header: Header, other: &Header) -> Header
     Header {
         min_zoom: header.min_zoom.min(other.min_zoom),
         max_zoom: header.max_zoom.max(other.max_zoom),
-        min_longitude: header.min_longitude.min(other.min_longitude),
-        min_latitude: header.min_latitude.min(other.min_latitude),
-        max_longitude: header.max_longitude.max(other.max_longitude),
-        max_latitude: header.max_latitude.max(other.max_latitude),
+        min_longitude: least(header.min_longitude, other.min_longitude),
+        min_latitude: least(header.min_latitude, other.min_latitude),
+        max_longitude: greatest(header.max_longitude, other.max_longitude),
+        max_latitude: greatest(header.max_latitude, other.max_latitude),
         ..header
     }
 }
@@ -71,12 +86,14 @@ pub(crate) fn test_alike(last: &Header, readers: &[ReaderState]) -> Result<(), J
     ensures err { IfErr result (λ e. (k : ℕ) × (e ≡ JoinError.Different k)
         × UnlikeAt last.now (map header_of readers.now) k) }
 {
-    for index in 0..readers.len() {
-        if !is_alike(last, readers[index].get_header()) {
-            return Err(JoinError::Different {
-                source: index as u64,
-            });
+    let mut rest = readers;
+    let mut number = 0;
+    while let Some((reader, others)) = rest.split_first() {
+        if !is_alike(last, reader.get_header()) {
+            return Err(JoinError::Different { source: number });
         }
+        number += 1;
+        rest = others;
     }
     Ok(())
 }

@@ -59,10 +59,11 @@ fn read_piece<B: Backend>(
         ≤ total (map B.reads sources.old.items) + 1 }
 {
     let entry = piece.entry;
-    let source = &mut sources[piece.source];
-    match readers[piece.source].read_contents(source, entry.offset(), entry.length()) {
+    let number = piece.source;
+    let source = &mut sources[number];
+    match readers[number].read_contents(source, entry.offset(), entry.length()) {
         Ok(bytes) => Ok(bytes),
-        Err(error) => Err(of_reader(piece.source, error)),
+        Err(error) => Err(of_reader(number, error)),
     }
 }
 

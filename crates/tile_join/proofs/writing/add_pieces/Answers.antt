@@ -25,6 +25,28 @@ read_piece-requires g c =
       number = let low = first_below (length c.args.sources.now.items) c.loop-piece.invariant.3.0 c.loop-piece.rest.now c.in-Some.piece.now c.in-Some.others.now c.in-Some.ensures.cases.0 c.loop-piece.invariant.3.1 in omega (arith, low, many);
     }
 
+pub loop-piece-preserved-in-Ok-add_run : goal.loop-piece-preserved-in-Ok-add_run
+loop-piece-preserved-in-Ok-add_run g c =
+    let i = c.loop-piece.invariant in
+    let k = c.read_piece.ensures.kept in
+    let a = c.in-Ok-add_run.ensures in (
+      λ o w.
+          let s = i.0 o w in
+          put_more (length c.args.sources.now.items) o (map header_of c.args.readers.now) (all_told (map g.B.Backend.told c.args.sources.now.items)) c.args.pieces.now c.loop-piece.rest.now c.in-Some.piece.now c.in-Some.others.now (g.M.Backend.told c.loop-piece.medium) (g.M.Backend.told c.add_run.new.medium) c.loop-piece.writer c.add_run.new.writer c.as_slice.result.now s
+          a.kept.tells c.in-Some.ensures.cases.0
+          (read_as (map header_of c.args.readers.now) (all_told (map g.B.Backend.told c.args.sources.now.items)) (all_told (map g.B.Backend.told c.loop-piece.sources.items)) c.in-Some.piece.now c.in-Ok.bytes c.as_slice.result.now (ap all_told i.4.told) c.as_slice.ensures c.in-Ok.ensures.read)
+          (a.added o s.mid s.writes),
+      a.writes,
+      a.alive,
+      (c.in-Some.piece.now.entry.tile_id + c.in-Some.piece.now.entry.run_length, rest_ordered (length c.args.sources.now.items) i.3.0 c.loop-piece.rest.now c.in-Some.piece.now c.in-Some.others.now c.in-Some.ensures.cases.0 i.3.1),
+      all_then _ _ _ _ _ _ _ i.4 k,
+      medium_then _ _ _ _ _ _ _ _ i.5 a.kept,
+      let n : piece_count c.loop-piece.rest.now ≡ piece_count (c.in-Some.piece.now ∷ c.in-Some.others.now) = ap piece_count c.in-Some.ensures.cases.0 in omega (arith, i.6, a.compared, n),
+      let n : length c.loop-piece.rest.now ≡ length (c.in-Some.piece.now ∷ c.in-Some.others.now) = ap length c.in-Some.ensures.cases.0 in omega (arith, i.7, c.read_piece.ensures.reads, n),
+      c.in-Ok.ensures.still ∙ i.8,
+      a.still ∙ i.9,
+    )
+
 pub loop-piece-preserved : goal.loop-piece-preserved
 loop-piece-preserved g c =
     let i = c.loop-piece.invariant in
