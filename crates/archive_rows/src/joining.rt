@@ -45,7 +45,7 @@ fn run(alloc: Global, out: &mut String, kept: &mut Kept, words: &mut Words) -> O
     let mut sources = sources_of(alloc, kept.sources.as_slice(), hindered, call)?;
     said(
         out,
-        join(alloc, &mut sources, &mut kept.extracted, max_tiles),
+        join(alloc, &mut sources, max_tiles, &mut kept.extracted),
     )?;
     say(out, &kept.extracted.as_bytes().get(97))?;
     say_calls(out, sources.as_slice())

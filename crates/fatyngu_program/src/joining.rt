@@ -61,7 +61,7 @@ fn write_joined(
         return Err(JoinError::MediumFault);
     };
     let step = begin_step(rt, TOOL, "joining", wanted.to);
-    if let Err(error) = join(rt.alloc(), sources, &mut medium, wanted.max_tiles) {
+    if let Err(error) = join(rt.alloc(), sources, wanted.max_tiles, &mut medium) {
         return Err(error);
     }
     if medium.flush().is_err() {
