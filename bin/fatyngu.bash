@@ -11,6 +11,7 @@ _fatyngu_options() {
     pack | unpack) echo --scheme ;;
     convert) echo --force --verify --hash --overwrite --strict --by-script ;;
     plain) echo --overwrite --no-verify ;;
+    join) echo --overwrite --max-tiles ;;
     extract) echo --bbox --tile --minzoom --maxzoom --overwrite --max-tiles ;;
     esac
 }
@@ -34,7 +35,7 @@ _fatyngu() {
     local word=${COMP_WORDS[COMP_CWORD]} subcommand=${COMP_WORDS[1]-} words
     COMPREPLY=()
     if [ "$COMP_CWORD" = 1 ]; then
-        words='convert import verify extract plain serve show tile summary validate hash meta copy patch pack unpack --help --version'
+        words='convert import verify extract join plain serve show tile summary validate hash meta copy patch pack unpack --help --version'
     elif [ "$COMP_CWORD" = 2 ] && [ "$subcommand" = meta ]; then
         words='get set all'
     elif words=$(_fatyngu_values "${COMP_WORDS[COMP_CWORD - 1]}"); then

@@ -9,6 +9,7 @@ written_sets() {
     "$real" old.mbtiles 'create unique index i on tiles (zoom_level, tile_column, tile_row)'
     set_of change.mbtiles "insert into tiles values (8, 0, 0, null), (8, 9, 9, x'04')"
     "$bin/mbtiles-to-pmtiles" old.mbtiles old.pmtiles >/dev/null 2>&1
+    "$fatyngu" extract old.pmtiles part.pmtiles '8 0 0 100 100' >/dev/null 2>&1
     "$fatyngu" unpack old.mbtiles files >/dev/null 2>&1
 }
 # prepare PATH: what is at the path before a run: the set, where OUT is a set that is there, or else nothing
@@ -87,6 +88,7 @@ kills fresh.mbtiles pack files fresh.mbtiles
 kills fresh.mbtiles import old.pmtiles fresh.mbtiles
 kills fresh.pmtiles convert old.mbtiles fresh.pmtiles
 kills fresh.pmtiles extract old.pmtiles fresh.pmtiles '8 0 0 200 255'
+kills fresh.pmtiles join old.pmtiles part.pmtiles fresh.pmtiles
 kills folder unpack old.mbtiles folder
 ends
 
@@ -99,6 +101,7 @@ kills there.mbtiles patch there.mbtiles change.mbtiles --force
 kills there.mbtiles copy change.mbtiles there.mbtiles --on-duplicate override
 kills there.pmtiles convert --overwrite old.mbtiles there.pmtiles
 kills there.pmtiles extract old.pmtiles there.pmtiles '8 0 0 200 255' --overwrite
+kills there.pmtiles join old.pmtiles part.pmtiles there.pmtiles --overwrite
 if command -v python3 >/dev/null; then
     python3 "$top/tools/checks/compressed_archive.py" old.pmtiles packed.pmtiles
     kills there.pmtiles plain --overwrite --no-verify packed.pmtiles there.pmtiles
@@ -133,6 +136,7 @@ if [ "$(id -u)" = 0 ] && mkdir -p "$room/small" && mount -t tmpfs -o size=600k n
     fails_full fresh.mbtiles import old.pmtiles "$small/fresh.mbtiles"
     fails_full fresh.pmtiles convert old.mbtiles "$small/fresh.pmtiles"
     fails_full fresh.pmtiles extract old.pmtiles "$small/fresh.pmtiles" '8 0 0 200 255'
+    fails_full fresh.pmtiles join old.pmtiles part.pmtiles "$small/fresh.pmtiles"
     if command -v python3 >/dev/null; then
         python3 "$top/tools/checks/compressed_archive.py" old.pmtiles packed.pmtiles
         run "$fatyngu" plain packed.pmtiles "$small/fresh.pmtiles"
@@ -149,7 +153,7 @@ if [ "$(id -u)" = 0 ] && mkdir -p "$room/small" && mount -t tmpfs -o size=600k n
     before=$(state "$small/there.mbtiles")
     mount -o remount,ro "$small"
     for words in "meta set $small/there.mbtiles name new" "hash --update $small/there.mbtiles" "patch $small/there.mbtiles change.mbtiles --force" \
-        "copy old.mbtiles $small/fresh.mbtiles" "pack files $small/fresh.mbtiles" "import old.pmtiles $small/fresh.mbtiles" "convert old.mbtiles $small/fresh.pmtiles" \
+        "copy old.mbtiles $small/fresh.mbtiles" "pack files $small/fresh.mbtiles" "import old.pmtiles $small/fresh.mbtiles" "convert old.mbtiles $small/fresh.pmtiles" "join old.pmtiles part.pmtiles $small/fresh.pmtiles" \
         "unpack old.mbtiles $small/folder"; do
         # shellcheck disable=SC2086
         run "$fatyngu" $words

@@ -27,7 +27,7 @@ for words in '' nothing 'show' 'show a b' 'tile a 0 0' 'meta' 'meta put a b' 'me
     says '^fatyngu: '
     holds [ ! -s out ]
 done
-for name in show tile summary validate hash 'meta get' 'meta set' 'meta all' copy patch pack unpack extract; do
+for name in show tile summary validate hash 'meta get' 'meta set' 'meta all' copy patch pack unpack extract join; do
     # shellcheck disable=SC2086
     run "$fatyngu" $name --help
     status 0

@@ -5,6 +5,7 @@ from cases import box_cases
 from cases import directory_cache_cases
 from cases import extract_cases
 from cases import header_check_cases
+from cases import join_cases
 from cases import part_cases
 from cases import reader_cases
 from cases import serve_cases
@@ -16,7 +17,7 @@ from cases.rows import Rows
 from cases.sample_archives import ONE
 
 if __name__ == '__main__':
-    for rows in (writer_cases, reader_cases, verify_cases, header_check_cases, part_cases, directory_cache_cases, serve_cases, extract_cases, box_cases, short_cases):
+    for rows in (writer_cases, reader_cases, verify_cases, header_check_cases, part_cases, directory_cache_cases, serve_cases, extract_cases, box_cases, join_cases, short_cases):
         rows.write()
     ROWS.write()
     Rows('tile_verify_program').write_data('one_tile.pmtiles', ONE)

@@ -5,8 +5,8 @@ use pm_writer::PmTilesWriter;
 use rows_shared::Counted;
 use std::alloc::Global;
 
-// The medium of most calls, the options of a writer, two caches, what each medium of an extraction has at first, and
-// the medium of the last one.
+// The medium of most calls, the options of a writer, two caches, what each medium of an extraction has at first, the
+// medium of the last one, and the sources that are joined.
 #[derive(Drop)]
 pub struct Kept {
     pub backend: Counted,
@@ -15,6 +15,7 @@ pub struct Kept {
     pub recent: Option<LruDirCache>,
     pub begun: Vec<u8>,
     pub extracted: MemMedium,
+    pub sources: Vec<MemMedium>,
 }
 
 impl Kept {
@@ -27,6 +28,7 @@ impl Kept {
             recent: None,
             begun: Vec::new(alloc),
             extracted: MemMedium::new(alloc),
+            sources: Vec::new(alloc),
         }
     }
 }

@@ -1,5 +1,5 @@
 //! Reads calls on archives from standard input, one a line, and prints each line with its answer: calls of pm_contents,
-//! pm_writer, pm_reader, tile_verify, tile_header_check, tile_serve and tile_extract.
+//! pm_writer, pm_reader, tile_verify, tile_header_check, tile_serve, tile_extract and tile_join.
 #![tactic(auto)]
 
 mod adds;
@@ -9,6 +9,7 @@ mod bulk;
 mod caches;
 mod contents;
 mod extracting;
+mod joining;
 mod kept;
 mod lines;
 mod media;
@@ -45,6 +46,7 @@ impl Rows for Kept {
             "boxes" => boxes::answer(alloc, out, &mut words),
             "said" => boxes::of_header(alloc, out, &mut self.backend, &mut words),
             "extract" => extracting::answer(alloc, out, self, &mut words),
+            "join" => joining::answer(alloc, out, self, &mut words),
             call => asking::answer(alloc, out, &mut self.backend, call, &mut words),
         }
     }

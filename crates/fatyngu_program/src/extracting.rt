@@ -1,27 +1,18 @@
 // Parts of archives: the tiles of boxes of columns and rows.
 use crate::TOOL;
 use crate::beside::put;
-use crate::reading::{FileKind, kind_of};
 use crate::saying::{out_of_memory, unopened, usage};
+use crate::wanted::{Wanted, source_status_for, take};
 use pm_format::{FileBackend, FileMedium, Header, status};
 use pm_reader::ReaderState;
 use program_words::{
-    Beside, Taken, are_one_file, begin_step, remove_beside, say_beside_fault, say_source_fault,
-    take_beside, take_over,
+    Beside, Taken, begin_step, remove_beside, say_beside_fault, say_source_fault,
 };
 use tile_command::{Asked, Subcommand, boxes_of, is_outlined_within, max_tiles_of, part_status};
 use tile_extract::{ExtractError, TilePart, ZoomBox, box_part, extract_intervals, said_boxes};
 
 // How many tiles lie along the sides of all boxes at most.
 const LONGEST: u64 = 20_000_000;
-
-// What is written, and how: the path, the most tiles that it may have, and whether it replaces what is there.
-#[derive(Clone, Copy)]
-struct Wanted<'a> {
-    to: &'a str,
-    max_tiles: u64,
-    overwrite: bool,
-}
 
 // Says why a part isn't extracted.
 fn unextracted(
@@ -83,15 +74,6 @@ fn extract_by(
     };
     remove_beside(rt, TOOL, beside);
     ended
-}
-
-// Makes the file beside the archive's place.
-fn take(rt: &HostRuntime, wanted: Wanted<'_>) -> Taken {
-    if wanted.overwrite {
-        take_over(rt, TOOL, wanted.to)
-    } else {
-        take_beside(rt, TOOL, wanted.to)
-    }
 }
 
 // Extracts a part of an archive.
@@ -173,24 +155,10 @@ fn extract_from(rt: &HostRuntime, from: &str, boxes: &[ZoomBox], wanted: Wanted<
 
 // Extracts boxes from a file, where it is an archive and not the one that is written.
 fn extract_boxes(rt: &HostRuntime, from: &str, boxes: &[ZoomBox], wanted: Wanted<'_>) -> u8 {
-    match kind_of(rt, from) {
-        Ok(FileKind::Archive) => {}
-        Ok(FileKind::Set) => {
-            let _ = eprintln!(rt;
-                "{TOOL}: {from} is a set; fatyngu convert makes an archive of it"
-            );
-            return status::REFUSED;
-        }
-        Err(status) => return status,
+    match source_status_for(rt, from, wanted.to) {
+        status::DONE => extract_from(rt, from, boxes, wanted),
+        status => status,
     }
-    let to = wanted.to;
-    if are_one_file(rt, from, to) {
-        let _ = eprintln!(rt;
-            "{TOOL}: {from} and {to} are one file; give another name for the part"
-        );
-        return status::REFUSED;
-    }
-    extract_from(rt, from, boxes, wanted)
 }
 
 /// Writes the archive of the tiles of boxes, by the words.

@@ -134,6 +134,19 @@ metadata of IN, and the zooms of its boxes.
 --max-tiles N  how many tiles OUT may have, 10000000 where nothing is said
 ";
 
+const JOIN: &str = "usage: fatyngu join IN.pmtiles .. OUT.pmtiles [--overwrite] [--max-tiles N]
+
+Writes the archive of the tiles of several archives. Where two have a tile, the
+later one counts, so that an archive of changes comes behind the one that it is
+for. All have to have tiles of one type and one compression. OUT says the zooms
+and the bounds of all of them, and the center and the metadata of the last. It
+is written beside its place, as OUT.new, and put there once it is whole. Memory
+holds the entries of the archives, and one content at a time. There may be 1000.
+
+--overwrite    replaces OUT where it is there; without it that is refused
+--max-tiles N  how many tiles OUT may have, 10000000 where nothing is said
+";
+
 const HEADER: &str = "usage: fatyngu_program header IN.pmtiles
 
 Tests what the header of an archive says, as fatyngu verify does behind
@@ -161,6 +174,7 @@ pub fn help_of(subcommand: Subcommand) -> &'static str {
         Subcommand::Pack => PACK,
         Subcommand::Unpack => UNPACK,
         Subcommand::Extract => EXTRACT,
+        Subcommand::Join => JOIN,
         Subcommand::Header => HEADER,
     }
 }

@@ -8,12 +8,14 @@ mod editing;
 mod extracting;
 mod filling;
 mod help;
+mod joining;
 mod looking;
 mod reading;
 mod saying;
 mod serving;
 mod showing;
 mod trees;
+mod wanted;
 
 use base_values::TextVal;
 use help::help_of;
@@ -38,6 +40,7 @@ meta get SET NAME     the text under a name of the metadata
 meta set SET NAME [VALUE]
 meta all SET          all names and their texts
 extract IN OUT BOX .. the archive of the tiles that one has in boxes
+join IN .. OUT        the archive of several, the later ones over the earlier
 copy SRC DST          copies a set
 patch BASE PATCH      puts a patch on a set
 pack FOLDER OUT       makes a set of files z/x/y.extension
@@ -66,6 +69,7 @@ fn run_making(rt: &HostRuntime, subcommand: Subcommand, asked: &Asked) -> u8 {
         Subcommand::Pack => trees::pack_folder(rt, asked),
         Subcommand::Unpack => trees::unpack_set(rt, asked),
         Subcommand::Extract => extracting::extract(rt, asked),
+        Subcommand::Join => joining::join_archives(rt, asked),
         Subcommand::MetaSet => editing::set(rt, asked),
         _ => status::USAGE,
     }

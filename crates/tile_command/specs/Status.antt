@@ -9,6 +9,8 @@ use Rattle.pm_format.specs.declared.error.PmtError.TheVariants as archives
 use Rattle.pm_format.specs.declared.error.ReadCause.TheVariants as causes
 use Rattle.tile_command.specs.Common.{ExtractError}
 use Rattle.tile_extract.specs.declared.error.ExtractError.TheVariants as extracts
+use Rattle.tile_join.specs.declared.error.JoinError.{JoinError}
+use Rattle.tile_join.specs.declared.error.JoinError.TheVariants as joins
 use Rattle.pm_format.specs.declared.status.TheConstants.{REFUSED, NO_INPUT, INPUT_FAULT, FAULT, OUT_OF_MEMORY, OTHER_FORM}
 
 abbrev pub read_status : ReadError → ℕ
@@ -40,6 +42,12 @@ part_status (extracts.Archive e) = source_status e
 part_status extracts.MediumFault = FAULT
 part_status extracts.OutOfMemory = OUT_OF_MEMORY
 part_status e = REFUSED
+
+abbrev pub join_status : JoinError → ℕ
+join_status (joins.Archive source e) = source_status e
+join_status joins.MediumFault = FAULT
+join_status joins.OutOfMemory = OUT_OF_MEMORY
+join_status e = REFUSED
 
 pub no_set : read_status reads.NotASet ≡ 3
 no_set = refl

@@ -21,7 +21,8 @@ making_of word =
     else (if bytes_eq word (codes "patch") then Some sub.Patch
     else (if bytes_eq word (codes "pack") then Some sub.Pack
     else (if bytes_eq word (codes "unpack") then Some sub.Unpack
-    else (if bytes_eq word (codes "extract") then Some sub.Extract else None))))
+    else (if bytes_eq word (codes "extract") then Some sub.Extract
+    else (if bytes_eq word (codes "join") then Some sub.Join else None)))))
 
 abbrev pub meta_of : List ℕ → Option Subcommand
 meta_of word =
@@ -50,6 +51,7 @@ has_flag sub.Hash word = bytes_eq word (codes "--update")
 has_flag sub.Copy word = bytes_eq word (codes "--skip-agg-tiles-hash") || (bytes_eq word (codes "--validate") || bytes_eq word (codes "--force"))
 has_flag sub.Patch word = bytes_eq word (codes "--force")
 has_flag sub.Extract word = bytes_eq word (codes "--overwrite")
+has_flag sub.Join word = bytes_eq word (codes "--overwrite")
 has_flag s word = false
 
 -- the options that a value follows
@@ -64,6 +66,7 @@ has_option sub.Copy word =
 has_option sub.Pack word = bytes_eq word (codes "--scheme")
 has_option sub.Unpack word = bytes_eq word (codes "--scheme")
 has_option sub.Extract word = bytes_eq word (codes "--max-tiles")
+has_option sub.Join word = bytes_eq word (codes "--max-tiles")
 has_option s word = false
 
 -- how many other words there are, at least and at most
@@ -83,6 +86,7 @@ places sub.MetaSet = (2, 3)
 places sub.Tile = (4, 4)
 places sub.Serve = (1, 5)
 places sub.Extract = (3, 4002)
+places sub.Join = (2, 1001)
 
 pub behind_meta : subcommand_of (codes "meta" ∷ codes "get" ∷ codes "a" ∷ []) ≡ Some (sub.MetaGet, codes "a" ∷ [])
 behind_meta = refl

@@ -20,7 +20,7 @@ pub use copier::copier_of;
 pub use document_text::{names_text, tilejson_text};
 pub use header_lines::header_text;
 pub use layout::layout_for;
-pub use status::{part_status, read_status, set_status, source_status};
+pub use status::{join_status, part_status, read_status, set_status, source_status};
 pub use subcommand::{Subcommand, subcommand_of};
 pub use summary_lines::summary_text;
 pub use words::asked_of;

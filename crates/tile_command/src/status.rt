@@ -1,11 +1,12 @@
 // The statuses that the tools end with.
 ghost use Rattle.std.specs.Prelude.{◌≡◌};
-ghost use Rattle.tile_command.specs.Status.{part_status, read_status, set_status, source_status};
+ghost use Rattle.tile_command.specs.Status.{join_status, part_status, read_status, set_status, source_status};
 
 use mb_reading::ReadError;
 use mb_store::MbtError;
 use pm_format::{PmtError, ReadCause, status};
 use tile_extract::ExtractError;
+use tile_join::JoinError;
 
 /// The status for a set that isn't read: 3 where there is none, 4 where its file can't be read, 10 where it is in a
 /// form that isn't read, 7 for want of memory,
@@ -55,6 +56,19 @@ pub fn part_status(error: &ExtractError) -> u8
         ExtractError::Archive(error) => source_status(error),
         ExtractError::MediumFault => status::FAULT,
         ExtractError::OutOfMemory => status::OUT_OF_MEMORY,
+        _ => status::REFUSED,
+    }
+}
+
+/// The status for archives that aren't joined: 6 where the file that is written failed, 7 for want of memory, that of
+/// the refusal of a source, and 1 for the others.
+pub fn join_status(error: &JoinError) -> u8
+    ensures { result ≡ join_status error.now }
+{
+    match error {
+        JoinError::Archive { error, .. } => source_status(error),
+        JoinError::MediumFault => status::FAULT,
+        JoinError::OutOfMemory => status::OUT_OF_MEMORY,
         _ => status::REFUSED,
     }
 }

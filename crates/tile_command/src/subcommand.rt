@@ -35,6 +35,8 @@ pub enum Subcommand {
     Serve,
     /// An archive of the tiles of boxes.
     Extract,
+    /// An archive of several, the later ones over the earlier.
+    Join,
     /// The tests of what an archive's header says.
     Header,
 }
@@ -65,6 +67,7 @@ fn making_of(word: &str) -> Option<Subcommand>
         "pack" => Some(Subcommand::Pack),
         "unpack" => Some(Subcommand::Unpack),
         "extract" => Some(Subcommand::Extract),
+        "join" => Some(Subcommand::Join),
         _ => None,
     }
 }
@@ -110,7 +113,7 @@ impl Subcommand {
             Subcommand::Hash => word == "--update",
             Subcommand::Copy => matches!(word, "--skip-agg-tiles-hash" | "--validate" | "--force"),
             Subcommand::Patch => word == "--force",
-            Subcommand::Extract => word == "--overwrite",
+            Subcommand::Extract | Subcommand::Join => word == "--overwrite",
             _ => false,
         }
     }
@@ -135,7 +138,7 @@ impl Subcommand {
                     | "--apply-patch"
             ),
             Subcommand::Pack | Subcommand::Unpack => word == "--scheme",
-            Subcommand::Extract => word == "--max-tiles",
+            Subcommand::Extract | Subcommand::Join => word == "--max-tiles",
             _ => false,
         }
     }
@@ -160,6 +163,7 @@ impl Subcommand {
             Subcommand::Tile => (4, 4),
             Subcommand::Serve => (1, 5),
             Subcommand::Extract => (3, 4002),
+            Subcommand::Join => (2, 1001),
         }
     }
 }

@@ -1,0 +1,46 @@
+-- The archive of runs, finished or refused.
+use Rattle.tile_join.proofs.Common.{adds_distinct, archive, ArchivePlaces, arith, Bool, ComesTo, Err, false, FinishCauses, Header, IfSome, IndexEntryOverflow, inl, inr, is_some, IsHiddenOr, IsWritten, List, None, of_write_error, Ok, Option, Options, OutOfMemory}
+use Rattle.tile_join.proofs.Common.{Piece, PiecesAdded, PiecesOverflow, places_of, PmtError, ShowsNone, Some, sym, true≢false, WriteCauses, WriterState, WritesPieces, ℕ, ◌∙◌, ◌≡◌, ◌≤◌}
+use Rattle.pm_format.specs.declared.error.PmtError.TheVariants as errors
+use Rattle.pm_format.specs.declared.error.ReadCause.TheVariants as causes
+use Rattle.tile_extract.proofs.AddedLemmas.{sorted_by}
+use Rattle.tile_join.proofs.PieceLemmas.{comes_as}
+use Rattle.tile_join.proofs.SourceLemmas.{if_told}
+
+-- an archive that is finished, or not
+pub finished : (o : Options) (hs : List Header) (sources : Option (List (List ℕ))) (ps : List Piece) (mid told : Option (List ℕ)) (s : WriterState) (failed : Bool) (before now : ℕ) (p : ArchivePlaces) (a : PiecesAdded o hs sources ps mid s) → is_some told ≡ is_some mid
+    → IfSome told (λ b. b ≡ archive o a.more) → p ≡ places_of o a.more → FinishCauses o a.more failed before now (Ok p) → IsWritten o hs sources ps told p
+finished o hs sources ps mid told s failed before now p a same one places c = record {
+  adds = a.more;
+  rises = a.rises;
+  few = a.few;
+  fits = c.1;
+  one = one;
+  places = places;
+  are = if_told (λ bs. ComesTo mid o hs bs ps (Ok a.more)) (λ bs. ComesTo told o hs bs ps (Ok a.more)) sources (λ bs at is. comes_as mid told o hs bs ps (Ok a.more) same is) a.are;
+}
+
+pub finish_shows : (o : Options) (hs : List Header) (sources : Option (List (List ℕ))) (ps : List Piece) (mid told : Option (List ℕ)) (s : WriterState) (a : PiecesAdded o hs sources ps mid s) → is_some told ≡ is_some mid → IfSome told (IsHiddenOr (archive o a.more)) → IfSome told (ShowsNone o hs sources ps)
+finish_shows o hs sources ps mid told s a same shown = by_told told (if_told (λ bs. ComesTo mid o hs bs ps (Ok a.more)) (λ bs. ComesTo told o hs bs ps (Ok a.more)) sources (λ bs at is. comes_as mid told o hs bs ps (Ok a.more) same is) a.are) shown
+  where
+    by_told : (told : Option (List ℕ)) → IfSome sources (λ bs. ComesTo told o hs bs ps (Ok a.more)) → IfSome told (IsHiddenOr (archive o a.more)) → IfSome told (ShowsNone o hs sources ps)
+    by_told None are shown = tt
+    by_told (Some b) are shown = elim shown [ inl hidden ↦ inl hidden | inr whole ↦ inr (record { adds = a.more; rises = a.rises; few = a.few; one = whole; are = are }) ]
+
+pub finish_refused : (o : Options) (hs : List Header) (sources : Option (List (List ℕ))) (ps : List Piece) (mid told : Option (List ℕ)) (s : WriterState) (failed : Bool) (before now : ℕ) (e : PmtError) (a : PiecesAdded o hs sources ps mid s) → is_some told ≡ is_some mid → failed ≡ false
+    → FinishCauses {A = ArchivePlaces} o a.more failed before now (Err e) → WritesPieces o hs sources ps told (Err (of_write_error e))
+finish_refused o hs sources ps mid told s failed before now errors.Failed a same alive c = tt
+finish_refused o hs sources ps mid told s failed before now (errors.OverlappingEntries id) a same alive c = tt
+finish_refused o hs sources ps mid told s failed before now errors.IndexEntryOverflow a same alive c = if_told (λ bs. ComesTo mid o hs bs ps (Ok a.more)) (PiecesOverflow told o hs ps) sources (λ bs at is. inr (a.more, comes_as mid told o hs bs ps (Ok a.more) same is, c.2)) a.are
+finish_refused o hs sources ps mid told s failed before now (errors.Reading causes.Fault) a same alive c = tt
+finish_refused o hs sources ps mid told s failed before now errors.OutOfMemory a same alive c = tt
+finish_refused o hs sources ps mid told s failed before now e a same alive c = absurd c
+
+pub finish_causes : (o : Options) (hs : List Header) (sources : Option (List (List ℕ))) (ps : List Piece) (mid : Option (List ℕ)) (s : WriterState) (failed : Bool) (first last : List ℕ) (old before now : ℕ) (e : PmtError) (a : PiecesAdded o hs sources ps mid s) → failed ≡ false → old ≤ before
+    → FinishCauses {A = ArchivePlaces} o a.more failed before now (Err e) → WriteCauses {A = ArchivePlaces} first last old now (Err (of_write_error e))
+finish_causes o hs sources ps mid s failed first last old before now errors.Failed a alive le c = absurd (true≢false (sym c ∙ alive))
+finish_causes o hs sources ps mid s failed first last old before now (errors.OverlappingEntries id) a alive le c = absurd (omega (arith, c.1.twice, adds_distinct a.more (sorted_by 0 a.more a.rises) id))
+finish_causes o hs sources ps mid s failed first last old before now errors.IndexEntryOverflow a alive le c = tt
+finish_causes o hs sources ps mid s failed first last old before now (errors.Reading causes.Fault) a alive le c = omega (arith, le, c.2)
+finish_causes o hs sources ps mid s failed first last old before now errors.OutOfMemory a alive le c = tt
+finish_causes o hs sources ps mid s failed first last old before now e a alive le c = absurd c

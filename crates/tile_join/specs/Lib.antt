@@ -1,0 +1,11 @@
+pub mod Common
+pub mod Over
+pub mod Sources
+pub mod Gathered
+pub mod Gather
+pub mod Written
+pub mod Headers
+pub mod Join
+pub mod Causes
+pub mod Opening
+pub mod Parts
