@@ -9,7 +9,7 @@ pub returns-in-Ok-clause-read : goal.returns-in-Ok-clause-read
 returns-in-Ok-clause-read g c =
     where_told (λ bs. TextRead bs (map header_of c.args.readers.now) (Ok c.in-Ok.text)) (all_told (map g.B.Backend.told c.args.sources.now.items))
     (λ bs told. text_ok c.args.readers.now bs (c.len-last.result - 1) c.index-readers-last.result c.in-Ok.text (omega (arith, c.len-last.ensures, told_long (map g.B.Backend.told c.args.sources.now.items) bs told, length-map c.args.sources.now.items g.B.Backend.told)) (omega (arith, c.requires.some, c.len-last.ensures, c.requires.readers)) c.index-readers-last.is
-        (as_told (λ b. MetadataAnswers (metadata_read b (header_of c.index-readers-last.result)) (Ok c.in-Ok.text)) (g.B.Backend.told c.index_mut-source.result.now) (get_or bs (c.len-last.result - 1) []) (tells_at g.B.Backend.told g.B.Backend.versions g.B.Backend.faults g.B.Backend.reads g.B.Backend.steady c.args.sources.now.items (c.len-last.result - 1) c.index_mut-source.result.now c.get_metadata.new.backend (omega (arith, c.requires.some, c.len-last.ensures)) c.index_mut-source.ensures.value bs told) c.in-Ok.ensures.answer))
+    (as_told (λ b. MetadataAnswers (metadata_read b (header_of c.index-readers-last.result)) (Ok c.in-Ok.text)) (g.B.Backend.told c.index_mut-source.result.now) (get_or bs (c.len-last.result - 1) []) (tells_at g.B.Backend.told g.B.Backend.versions g.B.Backend.faults g.B.Backend.reads g.B.Backend.steady c.args.sources.now.items (c.len-last.result - 1) c.index_mut-source.result.now c.get_metadata.new.backend (omega (arith, c.requires.some, c.len-last.ensures)) c.index_mut-source.ensures.value bs told) c.in-Ok.ensures.answer))
 
 pub returns-in-Ok-clause-still : goal.returns-in-Ok-clause-still
 returns-in-Ok-clause-still g c =
@@ -28,7 +28,7 @@ returns-in-Err-clause-read g c =
     subst (λ z. IfSome (all_told (map g.B.Backend.told c.args.sources.now.items)) (λ bs. TextRefused bs (map header_of c.args.readers.now) z)) (sym c.of_reader.ensures)
     (where_told (λ bs. TextRefused bs (map header_of c.args.readers.now) (of_read (c.len-last.result - 1) c.in-Err.error)) (all_told (map g.B.Backend.told c.args.sources.now.items))
     (λ bs told. text_err c.args.readers.now bs (c.len-last.result - 1) c.index-readers-last.result c.in-Err.error (omega (arith, c.len-last.ensures, told_long (map g.B.Backend.told c.args.sources.now.items) bs told, length-map c.args.sources.now.items g.B.Backend.told)) (omega (arith, c.requires.some, c.len-last.ensures, c.requires.readers)) c.index-readers-last.is
-        (as_told (λ b. MetadataAnswers (metadata_read b (header_of c.index-readers-last.result)) (Err c.in-Err.error)) (g.B.Backend.told c.index_mut-source.result.now) (get_or bs (c.len-last.result - 1) []) (tells_at g.B.Backend.told g.B.Backend.versions g.B.Backend.faults g.B.Backend.reads g.B.Backend.steady c.args.sources.now.items (c.len-last.result - 1) c.index_mut-source.result.now c.get_metadata.new.backend (omega (arith, c.requires.some, c.len-last.ensures)) c.index_mut-source.ensures.value bs told) c.in-Err.ensures.answer)))
+    (as_told (λ b. MetadataAnswers (metadata_read b (header_of c.index-readers-last.result)) (Err c.in-Err.error)) (g.B.Backend.told c.index_mut-source.result.now) (get_or bs (c.len-last.result - 1) []) (tells_at g.B.Backend.told g.B.Backend.versions g.B.Backend.faults g.B.Backend.reads g.B.Backend.steady c.args.sources.now.items (c.len-last.result - 1) c.index_mut-source.result.now c.get_metadata.new.backend (omega (arith, c.requires.some, c.len-last.ensures)) c.index_mut-source.ensures.value bs told) c.in-Err.ensures.answer)))
 
 pub returns-in-Err-clause-causes : goal.returns-in-Err-clause-causes
 returns-in-Err-clause-causes g c =
