@@ -1,5 +1,5 @@
 -- What is found before the tiles are written.
-use Rattle.tile_join.proofs.Common.{all_told, Different, IfSome, None, Option, PlanCauses, suc, TextCauses, TextRead, zero, ◌+◌, ◌∷◌}
+use Rattle.tile_join.proofs.Common.{all_told, Bool, Different, false, IfSome, nat_le, nat_tests, None, Option, PlanCauses, suc, TextCauses, TextRead, true, zero, ◌+◌, ◌∷◌}
 use Rattle.tile_join.proofs.SourceLemmas.{told_long}
 use Rattle.tile_join.proofs.Common.{All, ap, Archive, arith, Due, Err, gathered, Gathered, gathered_of, GatherCauses, get_or, Header, header_of, inl, inr, IsAlike, IsEarly, IsLastText, IsPlanned, JoinError, last_of, length, length-map, List, map, none-some, Ok, option_map}
 use Rattle.tile_join.proofs.Common.{Options, options_for, OutOfMemory, Piece, piece_count, Read, ReaderState, refl, Refuses, same_Some, slice_get, slice_get-get_or, slice_get-map, Some, subst, sym, TextRefused, TooManyTiles, UnlikeAt, ℕ, [], ◌-◌, ◌<◌, ◌∙◌, ◌≡◌, ◌≢◌, ◌≤◌}
@@ -75,7 +75,7 @@ plan_found ts again most readers shown pieces text h s n same is many some numbe
         let t : IsLastText bs (map header_of readers) text = subst (λ l. IsLastText bs (map header_of l) text) is read in
         record { gathers = gathers; lasts = t; same = header ∙ last_is bs readers text s n t (omega (arith, many, long bs refl)) some number at }
 
-pub found_read : (most : ℕ) (readers : List ReaderState) (pieces : List Piece) (text : List ℕ) (h : Header) (bs : List (List ℕ)) → PlanFound most readers pieces text h bs → Read bs most
+abbrev pub found_read : (most : ℕ) (readers : List ReaderState) (pieces : List Piece) (text : List ℕ) (h : Header) (bs : List (List ℕ)) → PlanFound most readers pieces text h bs → Read bs most
 found_read most readers pieces text h bs f = read_of bs most readers pieces text f.gathers f.lasts
 
 -- one source has other labels
@@ -95,6 +95,13 @@ unlike_causes most before now shown h x k many word unlike =
     subst (PlanCauses most before now) (sym word) (let low = unlike_low h (map header_of shown) k unlike in omega (arith, low, many, length-map shown header_of))
 
 -- there are too many tiles
+pub not_few : (n most : ℕ) → (n ≤ most → ⊥) → most < n
+not_few n most unless = by (nat_le n most) refl
+  where
+    by : (b : Bool) → nat_le n most ≡ b → most < n
+    by true is = absurd (unless (grind (arith, nat_tests)))
+    by false is = grind (arith, nat_tests)
+
 pub many_told : (told : Option (List (List ℕ))) (most : ℕ) (readers shown : List ReaderState) (pieces runs : List Piece) (text : List ℕ) (h : Header) → shown ≡ readers → runs ≡ pieces → All (IsAlike h) (map header_of shown) → most < piece_count runs → IfSome told (PlanFound most readers pieces text h)
     → IfSome told (λ bs. IsEarly bs most (TooManyTiles most))
 many_told None most readers shown pieces runs text h is are alike many f = tt
