@@ -10,3 +10,4 @@ pub mod PartLemmas
 pub mod HeaderLemmas
 pub mod OneLemmas
 pub mod PlanLemmas
+pub mod DoneLemmas
