@@ -13,3 +13,4 @@ pub mod PlanLemmas
 pub mod MapLemmas
 pub mod JoinedLemmas
 pub mod TilesLemmas
+pub mod DoneLemmas

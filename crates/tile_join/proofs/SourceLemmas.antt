@@ -9,6 +9,10 @@ pub if_told : {A : Type 0} (P R : A → Type 0) (told : Option A) → ((a : A) �
 if_told P R None f p = tt
 if_told P R (Some a) f p = f a refl p
 
+pub if_both : {A : Type 0} (P Q R : A → Type 0) (told : Option A) → ((a : A) → P a → Q a → R a) → IfSome told P → IfSome told Q → IfSome told R
+if_both P Q R None f p q = tt
+if_both P Q R (Some a) f p q = f a p q
+
 pub where_told : {A : Type 0} (R : A → Type 0) (told : Option A) → ((a : A) → told ≡ Some a → R a) → IfSome told R
 where_told R None f = tt
 where_told R (Some a) f = f a refl
