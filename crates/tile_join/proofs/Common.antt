@@ -34,4 +34,4 @@ pub use Rattle.tile_join.specs.declared.error.JoinError.TheVariants.{Archive, Di
 pub use Rattle.tile_join.specs.declared.piece.Piece.{Piece}
 pub use Rattle.tile_join.specs.Headers.{IsAlike, options_for, over_header, over_headers, UnlikeAt}
 pub use Rattle.tile_join.specs.Join.{Due, IsEarly, last_of, Read}
-pub use Rattle.tile_join.specs.Opening.{IsLastText, IsPlanned, PlanCauses, TextRead, TextRefused}
+pub use Rattle.tile_join.specs.Opening.{IsLastText, IsPlanned, PlanCauses, TextCauses, TextRead, TextRefused}

@@ -63,9 +63,9 @@ module _ {B V : Type 0} (tells : B → Option (List ℕ)) (texts : B → V) (fai
     gather_count one =
         if_told (λ bs. total (map reads now) + gather_reads (drop n bs) ≤ total (map reads old) + gather_reads bs) (λ bs. total (map reads after) + gather_reads (drop (n + 1) bs) ≤ total (map reads old) + gather_reads bs) (all_told (map tells old))
         (λ bs told count.
-            let b = get_or bs n [] in
-            let grow = reads_grow tells texts failed reads steady now n x y low is (find_reads b) (as_told (λ b. reads y ≤ reads x + find_reads b) (tells x) b (at bs told) one) in
-            omega (arith, grow, count, ap gather_reads (rest_at bs told))) so.count
+        let b = get_or bs n [] in
+        let grow = reads_grow tells texts failed reads steady now n x y low is (find_reads b) (as_told (λ b. reads y ≤ reads x + find_reads b) (tells x) b (at bs told) one) in
+        omega (arith, grow, count, ap gather_reads (rest_at bs told))) so.count
 
     pub gather_more : (more : List ReaderState) (laid : List Piece) → failed y ≡ failed x → IfSome (tells x) (λ b. IsAdded most (length readers) b (gathered_of readers pieces) (gathered_of more laid)) → IfSome (tells x) (λ b. reads y ≤ reads x + find_reads b)
         → length more ≡ length readers + 1 → InOrder (length readers + 1) 0 laid → GatheredSoFar tells texts failed reads steady most old after (n + 1) more laid
@@ -75,10 +75,10 @@ module _ {B V : Type 0} (tells : B → Option (List ℕ)) (texts : B → V) (fai
       rest =
           if_told (λ bs. gathered_from most n (gathered_of readers pieces) (drop n bs) ≡ gathered most bs) (λ bs. gathered_from most (n + 1) (gathered_of more laid) (drop (n + 1) bs) ≡ gathered most bs) (all_told (map tells old))
           (λ bs told rest.
-              let a = as_told (λ b. IsAdded most (length readers) b (gathered_of readers pieces) (gathered_of more laid)) (tells x) (get_or bs n []) (at bs told) added in
-              let one : found most n (get_or bs n []) ≡ Ok a.source = ap (λ k. found most k (get_or bs n [])) (sym so.many) ∙ a.found in
-              ap (λ g. gathered_from most (n + 1) g (drop (n + 1) bs)) (a.with ∙ ap (λ k. with_source (gathered_of readers pieces) k a.source) so.many)
-              ∙ sym (goes bs told rest ∙ ap (λ r. chain r (λ f. gathered_from most (n + 1) (with_source (gathered_of readers pieces) n f) (drop (n + 1) bs))) one)) so.rest;
+          let a = as_told (λ b. IsAdded most (length readers) b (gathered_of readers pieces) (gathered_of more laid)) (tells x) (get_or bs n []) (at bs told) added in
+          let one : found most n (get_or bs n []) ≡ Ok a.source = ap (λ k. found most k (get_or bs n [])) (sym so.many) ∙ a.found in
+          ap (λ g. gathered_from most (n + 1) g (drop (n + 1) bs)) (a.with ∙ ap (λ k. with_source (gathered_of readers pieces) k a.source) so.many)
+          ∙ sym (goes bs told rest ∙ ap (λ r. chain r (λ f. gathered_from most (n + 1) (with_source (gathered_of readers pieces) n f) (drop (n + 1) bs))) one)) so.rest;
       count = gather_count count;
       many = omega (arith, many, so.many);
       ordered = subst (λ k. InOrder (k + 1) 0 laid) so.many ordered;
@@ -88,9 +88,9 @@ module _ {B V : Type 0} (tells : B → Option (List ℕ)) (texts : B → V) (fai
     gather_refused e refused =
         if_told (λ bs. gathered_from most n (gathered_of readers pieces) (drop n bs) ≡ gathered most bs) (λ bs. Refuses (gathered most bs) e) (all_told (map tells old))
         (λ bs told rest.
-            refuses_on (found most n (get_or bs n [])) (gathered most bs) e
-            (λ z no. goes bs told rest ∙ ap (λ r. chain r (λ f. gathered_from most (n + 1) (with_source (gathered_of readers pieces) n f) (drop (n + 1) bs))) no)
-            (subst (λ k. Refuses (found most k (get_or bs n [])) e) so.many (as_told (λ b. Refuses (found most (length readers) b) e) (tells x) (get_or bs n []) (at bs told) refused))) so.rest
+        refuses_on (found most n (get_or bs n [])) (gathered most bs) e
+        (λ z no. goes bs told rest ∙ ap (λ r. chain r (λ f. gathered_from most (n + 1) (with_source (gathered_of readers pieces) n f) (drop (n + 1) bs))) no)
+        (subst (λ k. Refuses (found most k (get_or bs n [])) e) so.many (as_told (λ b. Refuses (found most (length readers) b) e) (tells x) (get_or bs n []) (at bs told) refused))) so.rest
 
     first_at : slice_index (map failed old) n ≡ failed x
     first_at = ap (λ l. slice_index l n) (sym so.still) ∙ mapped_at tells texts failed reads steady now n x y low is failed
@@ -100,7 +100,7 @@ module _ {B V : Type 0} (tells : B → Option (List ℕ)) (texts : B → V) (fai
         let same : k ≡ n = c.0 ∙ so.many in (
           omega (arith, same, low, length-map old failed, as_many tells old now so.read.told),
           subst (λ j. ReadCauses (slice_index (map failed old) j) (slice_index (map failed after) j) e) (sym same)
-          (subst (λ m. ReadCauses m (slice_index (map failed after) n) e) (sym first_at) (subst (λ m. ReadCauses (failed x) m e) (sym (mapped_now tells texts failed reads steady now n x y low is failed)) c.1)),
+              (subst (λ m. ReadCauses m (slice_index (map failed after) n) e) (sym first_at) (subst (λ m. ReadCauses (failed x) m e) (sym (mapped_now tells texts failed reads steady now n x y low is failed)) c.1)),
         )
     gather_causes (TooManyTiles m) c = c
     gather_causes OutOfMemory c = tt

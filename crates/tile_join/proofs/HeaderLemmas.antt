@@ -7,8 +7,8 @@ use Rattle.tile_join.specs.Headers.{IsAlike, over_header, over_headers, UnlikeAt
 
 pub over_is : (h g : Header) (least most : ℕ) (west south east north : ℤ) → least ≡ min h.min_zoom g.min_zoom → most ≡ max h.max_zoom g.max_zoom → west ≡ int_min h.min_longitude g.min_longitude → south ≡ int_min h.min_latitude g.min_latitude
     → east ≡ int_max h.max_longitude g.max_longitude → north ≡ int_max h.max_latitude g.max_latitude
-    → record h { min_zoom = least; max_zoom = most; min_longitude = west; min_latitude = south; max_longitude = east; max_latitude = north; } ≡ over_header h g
-over_is h g least most west south east north a b c d e f = λ i. record h { min_zoom = a i; max_zoom = b i; min_longitude = c i; min_latitude = d i; max_longitude = e i; max_latitude = f i; }
+    → record h { min_zoom = least; max_zoom = most; min_longitude = west; min_latitude = south; max_longitude = east; max_latitude = north } ≡ over_header h g
+over_is h g least most west south east north a b c d e f = λ i. record h { min_zoom = a i; max_zoom = b i; min_longitude = c i; min_latitude = d i; max_longitude = e i; max_latitude = f i }
 
 -- with one more header
 pub headers_more : (whole next all other : Header) (rest others : List ReaderState) (s : ReaderState) → rest ≡ s ∷ others → other ≡ header_of s → next ≡ over_header whole other → over_headers whole (map header_of rest) ≡ all → over_headers next (map header_of others) ≡ all

@@ -9,7 +9,7 @@ use Rattle.tile_join.proofs.FindLemmas.{read_stands}
 use Rattle.tile_join.proofs.SourceLemmas.{where_told, as_told}
 use Rattle.tile_join.specs.Common.{range_of}
 use Rattle.tile_join.specs.Join.{last_of}
-use Rattle.tile_join.specs.Opening.{IsLastText, PlanCauses, TextRead, TextRefused}
+use Rattle.tile_join.specs.Opening.{IsLastText, TextCauses, TextRead, TextRefused}
 
 -- the header of the reader with a number
 pub header_at : (readers : List ReaderState) (n : ℕ) (s : ReaderState) → n < length readers → s ≡ get_or readers n s → slice_get (map header_of readers) n ≡ Some (header_of s)
@@ -62,13 +62,13 @@ text_err readers bs n s e number low is m = by e m
     by e m = record { number = number; last = header_of s; lasts = lasts; refused = range ∙ m }
 
 -- why it isn't read
-pub text_causes : (most k : ℕ) (before now : List ℕ) (x y : ℕ) (e : PmtError) → k < length before → slice_index before k ≡ x → slice_index now k ≡ y → MetadataCauses {A = List ℕ} x y (Err e) → PlanCauses most before now (of_read k e)
-text_causes most k before now x y e low first last c = by e c
+pub text_causes : (k : ℕ) (before now : List ℕ) (x y : ℕ) (e : PmtError) → k < length before → slice_index before k ≡ x → slice_index now k ≡ y → MetadataCauses {A = List ℕ} x y (Err e) → TextCauses before now (of_read k e)
+text_causes k before now x y e low first last c = by e c
   where
     at : (e : PmtError) → ReadCauses x y e → (k < length before) × ReadCauses (slice_index before k) (slice_index now k) e
     at e c = (low, subst (λ m. ReadCauses m (slice_index now k) e) (sym first) (subst (λ m. ReadCauses x m e) (sym last) c))
 
-    by : (e : PmtError) → MetadataCauses {A = List ℕ} x y (Err e) → PlanCauses most before now (of_read k e)
+    by : (e : PmtError) → MetadataCauses {A = List ℕ} x y (Err e) → TextCauses before now (of_read k e)
     by errors.OutOfMemory c = tt
     by errors.InvalidMetadataUtf8Encoding c = at errors.InvalidMetadataUtf8Encoding tt
     by (errors.Reading causes.Fault) c = at (errors.Reading causes.Fault) c

@@ -9,6 +9,10 @@ pub if_told : {A : Type 0} (P R : A → Type 0) (told : Option A) → ((a : A) �
 if_told P R None f p = tt
 if_told P R (Some a) f p = f a refl p
 
+pub if_both : {A : Type 0} (P Q R : A → Type 0) (told : Option A) → ((a : A) → P a → Q a → R a) → IfSome told P → IfSome told Q → IfSome told R
+if_both P Q R None f p q = tt
+if_both P Q R (Some a) f p q = f a p q
+
 pub where_told : {A : Type 0} (R : A → Type 0) (told : Option A) → ((a : A) → told ≡ Some a → R a) → IfSome told R
 where_told R None f = tt
 where_told R (Some a) f = f a refl
@@ -37,7 +41,10 @@ told_at (Some b ∷ ts) bs n d low is = by (all_told ts) (λ m cs less at. told_
   where
     by_index : (cs : List (List ℕ)) (m : ℕ) → m < length (Some b ∷ ts) → ((k : ℕ) → k < length ts → IsToldAt ts cs k d) → IsToldAt (Some b ∷ ts) (b ∷ cs) m d
     by_index cs zero less deeper = record { one = refl; rest = refl }
-    by_index cs (suc k) less deeper = let a = deeper k (omega (arith, less)) in record { one = a.one; rest = a.rest }
+    by_index cs (suc k) less deeper =
+        let a = deeper k (omega (arith, less)) in
+        let e : suc k + 1 ≡ suc (k + 1) = omega arith in
+        record { one = a.one; rest = a.rest ∙ ap (λ m. get_or cs k [] ∷ drop m (b ∷ cs)) (sym e) }
 
     by : (o : Option (List (List ℕ))) → ((m : ℕ) (cs : List (List ℕ)) → m < length ts → o ≡ Some cs → IsToldAt ts cs m d) → option_map (λ cs. b ∷ cs) o ≡ Some bs → IsToldAt (Some b ∷ ts) bs n d
     by None deeper is = absurd (cc)

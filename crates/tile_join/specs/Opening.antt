@@ -46,6 +46,12 @@ abbrev pub TextRead : List (List ℕ) → List Header → Result (List ℕ) Join
 TextRead bs hs (Ok text) = IsLastText bs hs text
 TextRead bs hs (Err e) = TextRefused bs hs e
 
+-- told or not, why the last one's text isn't read, by the counts of faults of all
+abbrev pub TextCauses : List ℕ → List ℕ → JoinError → Type 0
+TextCauses before now (Archive k e) = (k < length before) × ReadCauses (slice_index before k) (slice_index now k) e
+TextCauses before now OutOfMemory = Unit {0}
+TextCauses before now e = ⊥
+
 -- told or not, why a source or what is found of them all is refused, by the counts of faults of all
 abbrev pub PlanCauses : ℕ → List ℕ → List ℕ → JoinError → Type 0
 PlanCauses most before now (Archive k e) = (k < length before) × ReadCauses (slice_index before k) (slice_index now k) e

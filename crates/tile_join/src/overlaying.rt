@@ -30,12 +30,7 @@ fn cut_out(piece: Piece, low: u64, end: u64) -> Option<Piece>
 }
 
 // Pushes the part of a run from one id on and below another, if there is one.
-fn push_part(
-    pushed: &mut Vec<Piece>,
-    piece: Piece,
-    low: u64,
-    end: u64,
-) -> Result<(), OutOfMemory>
+fn push_part(pushed: &mut Vec<Piece>, piece: Piece, low: u64, end: u64) -> Result<(), OutOfMemory>
     requires within { end_of piece ≤ MAX_TILE_ID + 1 }
     ensures { OnOk result (pushed.new.items ≡ pushed.old.items ++ cut_out low end piece) }
 {

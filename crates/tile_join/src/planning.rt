@@ -4,7 +4,7 @@ ghost use Rattle.pm_format.specs.declared.compression.Compression.TheVariants as
 ghost use Rattle.tile_join.specs.Common.{header_of};
 ghost use Rattle.tile_join.specs.Gathered.{gather_reads};
 ghost use Rattle.tile_join.specs.Join.{IsEarly};
-ghost use Rattle.tile_join.specs.Opening.{IsPlanned, PlanCauses, TextRead};
+ghost use Rattle.tile_join.specs.Opening.{IsPlanned, PlanCauses, TextCauses, TextRead};
 ghost use Rattle.tile_join.specs.Over.{InOrder};
 ghost use Rattle.tile_join.specs.Sources.{AreOnlyRead, SourcesStand, all_told, total};
 ghost use Rattle.tile_join.specs.Written.{piece_count};
@@ -27,7 +27,7 @@ fn last_text<B: Backend>(
     requires readers { length readers.now ≡ length sources.old.items }
     ensures read { IfSome (all_told (map B.told sources.old.items))
         (λ bs. TextRead bs (map header_of readers.now) result) }
-    ensures causes { IfErr result (PlanCauses 0 (map B.faults sources.old.items)
+    ensures causes { IfErr result (TextCauses (map B.faults sources.old.items)
         (map B.faults sources.new.items)) }
     ensures still { SourcesStand (map B.faults sources.old.items)
         (map B.faults sources.new.items) result }

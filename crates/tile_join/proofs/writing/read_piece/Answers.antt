@@ -9,8 +9,8 @@ pub returns-in-Ok-clause-read : goal.returns-in-Ok-clause-read
 returns-in-Ok-clause-read g c =
     where_told (λ bs. PieceRead (looked (map header_of c.args.readers.now) bs c.args.piece) c.args.piece (Ok c.in-Ok.bytes)) (all_told (map g.B.Backend.told c.args.sources.now.items))
     (λ bs told. piece_ok c.args.readers.now bs c.args.piece c.index-readers-number.result c.offset.result c.length.result c.in-Ok.bytes (omega (arith, c.requires.number, c.requires.readers)) c.index-readers-number.is c.offset.ensures c.length.ensures
-        (as_told (λ b. Gives (range_read b ((header_of c.index-readers-number.result).data_offset + c.offset.result) c.length.result) (Ok c.in-Ok.bytes)) (g.B.Backend.told c.index_mut-source.result.now) (get_or bs c.args.piece.source [])
-        (tells_at g.B.Backend.told g.B.Backend.versions g.B.Backend.faults g.B.Backend.reads g.B.Backend.steady c.args.sources.now.items c.args.piece.source c.index_mut-source.result.now c.read_contents.new.backend c.requires.number c.index_mut-source.ensures.value bs told) c.in-Ok.ensures.answer))
+    (as_told (λ b. Gives (range_read b ((header_of c.index-readers-number.result).data_offset + c.offset.result) c.length.result) (Ok c.in-Ok.bytes)) (g.B.Backend.told c.index_mut-source.result.now) (get_or bs c.args.piece.source [])
+    (tells_at g.B.Backend.told g.B.Backend.versions g.B.Backend.faults g.B.Backend.reads g.B.Backend.steady c.args.sources.now.items c.args.piece.source c.index_mut-source.result.now c.read_contents.new.backend c.requires.number c.index_mut-source.ensures.value bs told) c.in-Ok.ensures.answer))
 
 pub returns-in-Ok-clause-still : goal.returns-in-Ok-clause-still
 returns-in-Ok-clause-still g c =
@@ -29,8 +29,8 @@ returns-in-Err-clause-read g c =
     subst (λ z. IfSome (all_told (map g.B.Backend.told c.args.sources.now.items)) (λ bs. PieceRead (looked (map header_of c.args.readers.now) bs c.args.piece) c.args.piece (Err z))) (sym c.of_reader.ensures)
     (where_told (λ bs. PieceRead (looked (map header_of c.args.readers.now) bs c.args.piece) c.args.piece (Err (of_read c.args.piece.source c.in-Err.error))) (all_told (map g.B.Backend.told c.args.sources.now.items))
     (λ bs told. piece_err c.args.readers.now bs c.args.piece c.index-readers-number.result c.offset.result c.length.result c.in-Err.error (omega (arith, c.requires.number, c.requires.readers)) c.index-readers-number.is c.offset.ensures c.length.ensures
-        (as_told (λ b. Gives (range_read b ((header_of c.index-readers-number.result).data_offset + c.offset.result) c.length.result) (Err c.in-Err.error)) (g.B.Backend.told c.index_mut-source.result.now) (get_or bs c.args.piece.source [])
-        (tells_at g.B.Backend.told g.B.Backend.versions g.B.Backend.faults g.B.Backend.reads g.B.Backend.steady c.args.sources.now.items c.args.piece.source c.index_mut-source.result.now c.read_contents.new.backend c.requires.number c.index_mut-source.ensures.value bs told) c.in-Err.ensures.answer)))
+    (as_told (λ b. Gives (range_read b ((header_of c.index-readers-number.result).data_offset + c.offset.result) c.length.result) (Err c.in-Err.error)) (g.B.Backend.told c.index_mut-source.result.now) (get_or bs c.args.piece.source [])
+    (tells_at g.B.Backend.told g.B.Backend.versions g.B.Backend.faults g.B.Backend.reads g.B.Backend.steady c.args.sources.now.items c.args.piece.source c.index_mut-source.result.now c.read_contents.new.backend c.requires.number c.index_mut-source.ensures.value bs told) c.in-Err.ensures.answer)))
 
 pub returns-in-Err-clause-causes : goal.returns-in-Err-clause-causes
 returns-in-Err-clause-causes g c =
