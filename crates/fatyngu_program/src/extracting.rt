@@ -5,9 +5,7 @@ use crate::saying::{out_of_memory, unopened, usage};
 use crate::wanted::{Wanted, source_status_for, take};
 use pm_format::{FileBackend, FileMedium, Header, status};
 use pm_reader::ReaderState;
-use program_words::{
-    Beside, Taken, begin_step, remove_beside, say_beside_fault, say_source_fault,
-};
+use program_words::{Beside, Taken, begin_step, remove_beside, say_beside_fault, say_source_fault};
 use tile_command::{Asked, Subcommand, boxes_of, is_outlined_within, max_tiles_of, part_status};
 use tile_extract::{ExtractError, TilePart, ZoomBox, box_part, extract_intervals, said_boxes};
 

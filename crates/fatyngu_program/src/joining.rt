@@ -5,9 +5,7 @@ use crate::saying::{out_of_memory, unopened, usage};
 use crate::wanted::{Wanted, source_status_for, take};
 use base_values::TextVal;
 use pm_format::{FileBackend, FileMedium, status};
-use program_words::{
-    Beside, Taken, begin_step, remove_beside, say_beside_fault, say_source_fault,
-};
+use program_words::{Beside, Taken, begin_step, remove_beside, say_beside_fault, say_source_fault};
 use tile_command::{Asked, Subcommand, join_status, max_tiles_of};
 use tile_join::{JoinError, join};
 

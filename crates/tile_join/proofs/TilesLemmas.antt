@@ -102,8 +102,8 @@ run_behind o hs bs p low done mid bytes t look put order = by (slice_get hs p.so
     by_range : (h : Header) → range_of (get_or bs p.source []) (h.data_offset + p.entry.offset) p.entry.length ≡ Some bytes → RunBehind p bytes done mid t
     by_range h range =
         let one : parts.put_parts o h (get_or bs p.source []) (p.entry ∷ []) done ≡ Ok mid =
-            ap (λ r. elim r as (λ _. Result Adds ExtractError) [ None ↦ Err (extract.Archive (errors.Reading causes.PastEnd)) | Some x ↦ parts.put_next (parts.put_parts o h (get_or bs p.source []) []) (parts.put_all o x done (ids_of p.entry)) ]) range
-            ∙ ap (parts.put_next (parts.put_parts o h (get_or bs p.source []) [])) put in
+        ap (λ r. elim r as (λ _. Result Adds ExtractError) [ None ↦ Err (extract.Archive (errors.Reading causes.PastEnd)) | Some x ↦ parts.put_next (parts.put_parts o h (get_or bs p.source []) []) (parts.put_all o x done (ids_of p.entry)) ]) range
+        ∙ ap (parts.put_next (parts.put_parts o h (get_or bs p.source []) [])) put in
         let a = all_behind h (get_or bs p.source []) (p.entry ∷ []) low done t order in
         record {
           rest = a.rest;

@@ -18,8 +18,8 @@ returns-in-Err-test_alike-clause-refused g c =
     let pieces = c.in-Ok.found.1.items in
     let h = c.get_header-last.result.now in
     let found =
-        plan_found ts (all_told (map g.B.Backend.told c.gather.new.sources.items)) c.args.max_tiles readers c.deref.result.now pieces c.in-Ok-last_text.text h c.index.result.now (c.len.result - 1) (ap all_told c.gather.ensures.kept.told) c.deref.ensures.value
-        (omega (arith, c.in-Ok.ensures.all, length-map c.args.sources.now.items g.B.Backend.told)) (omega (arith, c.in-Ok.ensures.all, c.requires.some)) (omega (arith, c.len.ensures)) c.index.ensures c.get_header-last.ensures c.in-Ok.ensures.gathered c.in-Ok-last_text.ensures.read in
+    plan_found ts (all_told (map g.B.Backend.told c.gather.new.sources.items)) c.args.max_tiles readers c.deref.result.now pieces c.in-Ok-last_text.text h c.index.result.now (c.len.result - 1) (ap all_told c.gather.ensures.kept.told) c.deref.ensures.value
+    (omega (arith, c.in-Ok.ensures.all, length-map c.args.sources.now.items g.B.Backend.told)) (omega (arith, c.in-Ok.ensures.all, c.requires.some)) (omega (arith, c.len.ensures)) c.index.ensures c.get_header-last.ensures c.in-Ok.ensures.gathered c.in-Ok-last_text.ensures.read in
     unlike_told (all_told ts) c.args.max_tiles readers c.deref-2.result.now pieces c.in-Ok-last_text.text h c.in-Err-test_alike.error c.in-Err-test_alike.ensures.err.0 c.deref-2.ensures.value c.in-Err-test_alike.ensures.err.1 c.in-Err-test_alike.ensures.err.2 found
 
 pub returns-in-Err-test_alike-clause-causes : goal.returns-in-Err-test_alike-clause-causes
@@ -34,8 +34,8 @@ returns-then-not-are_few-clause-refused g c =
     let pieces = c.in-Ok.found.1.items in
     let h = c.get_header-last.result.now in
     let found =
-        plan_found ts (all_told (map g.B.Backend.told c.gather.new.sources.items)) c.args.max_tiles readers c.deref.result.now pieces c.in-Ok-last_text.text h c.index.result.now (c.len.result - 1) (ap all_told c.gather.ensures.kept.told) c.deref.ensures.value
-        (omega (arith, c.in-Ok.ensures.all, length-map c.args.sources.now.items g.B.Backend.told)) (omega (arith, c.in-Ok.ensures.all, c.requires.some)) (omega (arith, c.len.ensures)) c.index.ensures c.get_header-last.ensures c.in-Ok.ensures.gathered c.in-Ok-last_text.ensures.read in
+    plan_found ts (all_told (map g.B.Backend.told c.gather.new.sources.items)) c.args.max_tiles readers c.deref.result.now pieces c.in-Ok-last_text.text h c.index.result.now (c.len.result - 1) (ap all_told c.gather.ensures.kept.told) c.deref.ensures.value
+    (omega (arith, c.in-Ok.ensures.all, length-map c.args.sources.now.items g.B.Backend.told)) (omega (arith, c.in-Ok.ensures.all, c.requires.some)) (omega (arith, c.len.ensures)) c.index.ensures c.get_header-last.ensures c.in-Ok.ensures.gathered c.in-Ok-last_text.ensures.read in
     let unless : piece_count c.deref-3.result.now ≤ c.args.max_tiles → ⊥ = search rules in
     many_told (all_told ts) c.args.max_tiles readers c.deref-2.result.now pieces c.deref-3.result.now c.in-Ok-last_text.text h c.deref-2.ensures.value c.deref-3.ensures.value c.in-Ok-test_alike.ensures.ok (not_few (piece_count c.deref-3.result.now) c.args.max_tiles unless) found
 
@@ -46,7 +46,7 @@ returns-clause-planned g c =
     let pieces = c.in-Ok.found.1.items in
     let h = c.get_header-last.result.now in
     let found =
-        plan_found ts (all_told (map g.B.Backend.told c.gather.new.sources.items)) c.args.max_tiles readers c.deref.result.now pieces c.in-Ok-last_text.text h c.index.result.now (c.len.result - 1) (ap all_told c.gather.ensures.kept.told) c.deref.ensures.value
-        (omega (arith, c.in-Ok.ensures.all, length-map c.args.sources.now.items g.B.Backend.told)) (omega (arith, c.in-Ok.ensures.all, c.requires.some)) (omega (arith, c.len.ensures)) c.index.ensures c.get_header-last.ensures c.in-Ok.ensures.gathered c.in-Ok-last_text.ensures.read in
+    plan_found ts (all_told (map g.B.Backend.told c.gather.new.sources.items)) c.args.max_tiles readers c.deref.result.now pieces c.in-Ok-last_text.text h c.index.result.now (c.len.result - 1) (ap all_told c.gather.ensures.kept.told) c.deref.ensures.value
+    (omega (arith, c.in-Ok.ensures.all, length-map c.args.sources.now.items g.B.Backend.told)) (omega (arith, c.in-Ok.ensures.all, c.requires.some)) (omega (arith, c.len.ensures)) c.index.ensures c.get_header-last.ensures c.in-Ok.ensures.gathered c.in-Ok-last_text.ensures.read in
     let few : piece_count c.deref-3.result.now ≤ c.args.max_tiles = search rules in
     planned_told (all_told ts) c.args.max_tiles c.options_for-options.result readers c.deref-2.result.now c.deref-4.result.now pieces c.deref-3.result.now c.in-Ok-last_text.text h c.deref-2.ensures.value c.deref-4.ensures.value c.deref-3.ensures.value c.in-Ok-test_alike.ensures.ok few c.options_for-options.ensures found
