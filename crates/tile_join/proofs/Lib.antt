@@ -11,3 +11,6 @@ pub mod HeaderLemmas
 pub mod OneLemmas
 pub mod PlanLemmas
 pub mod DoneLemmas
+pub mod MapLemmas
+pub mod JoinedLemmas
+pub mod PutLemmas
