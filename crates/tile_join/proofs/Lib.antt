@@ -14,3 +14,6 @@ pub mod MapLemmas
 pub mod JoinedLemmas
 pub mod TilesLemmas
 pub mod DoneLemmas
+pub mod MapLemmas
+pub mod JoinedLemmas
+pub mod PutLemmas
