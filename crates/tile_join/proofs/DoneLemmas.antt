@@ -6,19 +6,14 @@ use Rattle.pm_format.specs.WellFormed.{WellFormed}
 use Rattle.pm_format.specs.declared.error.PmtError.TheVariants as errors
 use Rattle.pm_format.specs.declared.error.ReadCause.TheVariants as causes
 use Rattle.pm_writer.proofs.PlacesRead.{places_are}
-use Rattle.tile_join.proofs.Common.{InOrder, tile_found}
 use Rattle.std.specs.Cmp.{nat_cmp_total}
 use Rattle.std.specs.FinMap.{find, from_entries, get, get-from_entries}
 use Rattle.tile_extract.proofs.AddedLemmas.{sorted_by}
 use Rattle.tile_join.proofs.PieceLemmas.{comes_as}
 use Rattle.tile_join.proofs.SourceLemmas.{if_both, if_told}
-<<<<<<< HEAD
-use Rattle.tile_join.proofs.TilesLemmas.{joined_is}
-=======
 use Rattle.tile_join.proofs.Common.{tile_found, ◌+◌}
 use Rattle.tile_join.proofs.JoinedLemmas.{sources_tiles}
 use Rattle.tile_join.proofs.PutLemmas.{put_spot}
->>>>>>> c01026de3f8f132323d3d4743807e7ffb5d95c0c
 use Rattle.tile_join.specs.Causes.{Uncompared}
 use Rattle.tile_join.specs.Common.{ArchiveFits, IsArchivable, MayBeTile, nat_cmp, places_of}
 use Rattle.tile_join.specs.Join.{Added, IntoBytes, IntoLeaves, IsDone, IsJoin, IsLate, JoinAnswers, joined, Overflows, read_options, ShowsNoPart}
@@ -29,12 +24,6 @@ pub as_planned : (P : Options → List Header → Option (List (List ℕ)) → L
 as_planned P source again o q readers shown ps runs same is are tell p =
     subst (λ x. P x (map header_of readers) source ps) same (subst (λ x. P q (map header_of x) source ps) is (subst (λ x. P q (map header_of shown) source x) are (subst (λ x. P q (map header_of shown) x runs) tell p)))
 
-<<<<<<< HEAD
-map_is : (bs : List (List ℕ)) (most n : ℕ) (g : Gathered) (o : Options) (adds : Adds) → gathered most bs ≡ Ok g → InOrder n 0 g.pieces → put_pieces o g.headers bs g.pieces [] ≡ Ok adds → (id : ℕ) → find nat_cmp id adds ≡ joined bs id
-map_is bs most n g o adds gathers order put id = sym (tile_found adds id) ∙ joined_is o most n bs g adds id gathers order put
-
-module _ (most : ℕ) (o : Options) (readers : List ReaderState) (ps : List Piece) (n : ℕ) (order : InOrder n 0 ps) where
-=======
 -- the adds of runs are the tiles of the maps, each over those before it
 joined_is : (bs : List (List ℕ)) (most : ℕ) (g : Gathered) (o : Options) (adds : Adds) → gathered most bs ≡ Ok g → put_pieces o g.headers bs g.pieces [] ≡ Ok adds → (id : ℕ) → find nat_cmp id adds ≡ joined bs id
 joined_is bs most g o adds gathers put id =
@@ -42,7 +31,6 @@ joined_is bs most g o adds gathers put id =
     sym (tile_found adds id) ∙ put_spot o g.headers bs (0 + length bs) 0 g.pieces adds id (joined bs id) s.ordered put s.tile
 
 module _ (most : ℕ) (o : Options) (readers : List ReaderState) (ps : List Piece) where
->>>>>>> c01026de3f8f132323d3d4743807e7ffb5d95c0c
   abbrev hs : List Header
   hs = map header_of readers
 
@@ -59,7 +47,7 @@ module _ (most : ℕ) (o : Options) (readers : List ReaderState) (ps : List Piec
 
   told_of : (source : Option (List (List ℕ))) (adds : Adds) → IfSome source Planned → IfSome source (λ bs. put_pieces o hs bs ps [] ≡ Ok adds) → IfSome source (IsOf adds)
   told_of source adds p is =
-      if_both Planned (λ bs. put_pieces o hs bs ps [] ≡ Ok adds) (IsOf adds) source (λ bs plan put. ((plan.due.read, plan.options), map_is bs most n (gathered_of readers ps) o adds (plan.due.read.gathers ∙ ap Ok plan.found) order put)) p is
+      if_both Planned (λ bs. put_pieces o hs bs ps [] ≡ Ok adds) (IsOf adds) source (λ bs plan put. ((plan.due.read, plan.options), joined_is bs most (gathered_of readers ps) o adds (plan.due.read.gathers ∙ ap Ok plan.found) put)) p is
 
   is_join : (source : Option (List (List ℕ))) (adds : Adds) (w : List ℕ) → piece_count ps ≤ most → Rises 0 adds → length adds ≤ piece_count ps → IfSome source (IsOf adds) → w ≡ archive o adds → IsJoin source most w
   is_join source adds w kept rises few of is =

@@ -3,13 +3,10 @@ use Rattle.tile_join.proofs.Common.{add_to, Adds, ap, append_assoc, AreOrdered, 
 use Rattle.tile_join.proofs.Common.{JoinError, length, List, look_in, looked, MAX_TILE_ID, met, nat_le, None, none-some, none_yet, numbered, Ok, Opened, opened, Option, Options, over, Piece, piece, put_all, put_pieces, refl, Result, runs_met, slice_get, Some}
 use Rattle.tile_join.proofs.Common.{subst, sym, take, true, whole, with_source, ℕ, [], ◌&&◌, ◌++◌, ◌+◌, ◌<◌, ◌∙◌, ◌∷◌, ◌≡◌, ◌≤◌, ◌≢◌}
 use Rattle.std.proofs.Common.{◌||◌}
-<<<<<<< HEAD
-=======
 use Rattle.std.proofs.Math.Seq.{get_or-append_seam}
 use Rattle.std.proofs.lemmas.List.{get_or_append_left, length-append}
 use Rattle.tile_join.proofs.Common.{chain, slice_get-get_or}
 use Rattle.tile_join.proofs.OverLemmas.{over_ordered}
->>>>>>> c01026de3f8f132323d3d4743807e7ffb5d95c0c
 use Rattle.std.proofs.lemmas.List.{length-drop, length-take-le}
 use Rattle.pm_format.specs.LookUp.{archive_tile, filled}
 use Rattle.pm_format.specs.declared.error.PmtError.TheVariants as errors
@@ -51,11 +48,7 @@ tile_as hs bs tile (Some p) None same t = absurd same
 tile_as hs bs tile (Some p) (Some q) same t = record { some = let m = t.some in omega (arith, m, same.2); is = λ bytes there. t.is bytes (sym (looked_same hs bs p q same) ∙ there) }
 
 -- one more source: the tiles of its map over those below
-<<<<<<< HEAD
-pub tile_over : (hs : List Header) (bs : List (List ℕ)) (t n : ℕ) (es : List Entry) (others : List Piece) (tile below : Option (List ℕ)) → AreOrdered 0 es None → InOrder n 0 others → TileAt hs bs below (spot t others)
-=======
 tile_over : (hs : List Header) (bs : List (List ℕ)) (t n : ℕ) (es : List Entry) (others : List Piece) (tile below : Option (List ℕ)) → AreOrdered 0 es None → InOrder n 0 others → TileAt hs bs below (spot t others)
->>>>>>> c01026de3f8f132323d3d4743807e7ffb5d95c0c
     → ((e : Entry) → covering t es ≡ Some e → IsTile hs bs (piece n e) tile) → (covering t es ≡ None → tile ≡ None) → TileAt hs bs (over_tile tile below) (spot t (over 0 (numbered n es) others))
 tile_over hs bs t n es others tile below o p is has lacks = by (covering t es) refl
   where
@@ -123,22 +116,14 @@ map_held : (b : List ℕ) (o : Opened) (t : ℕ) → opened b ≡ Ok o → (met 
 map_held b o t opens fine = sym (whole_cut b t) ∙ cut_held b o whole_part t opens fine
 
 -- what is found of a source
-<<<<<<< HEAD
-pub record IsFound (b : List ℕ) (f : Header × List Entry) : Type 0 where
-=======
 record IsFound (b : List ℕ) (f : Header × List Entry) : Type 0 where
->>>>>>> c01026de3f8f132323d3d4743807e7ffb5d95c0c
   pub out : Opened
   pub opens : opened b ≡ Ok out
   pub fine : (met b out).refusal ≡ None
   pub header : out.0 ≡ f.0
   pub runs : runs_met b out ≡ f.1
 
-<<<<<<< HEAD
-pub is_found : (most k : ℕ) (b : List ℕ) (f : Header × List Entry) → found most k b ≡ Ok f → IsFound b f
-=======
 is_found : (most k : ℕ) (b : List ℕ) (f : Header × List Entry) → found most k b ≡ Ok f → IsFound b f
->>>>>>> c01026de3f8f132323d3d4743807e7ffb5d95c0c
 unfolding found
 is_found most k b f is = by (opened b) refl is
   where
@@ -154,11 +139,7 @@ is_found most k b f is = by (opened b) refl is
     by (Err e) opens is = absurd (cc)
     by (Ok o) opens is = by_met o opens (met b o).refusal refl is
 
-<<<<<<< HEAD
-pub found_ordered : (b : List ℕ) (f : Header × List Entry) → IsFound b f → AreOrdered 0 f.1 None
-=======
 found_ordered : (b : List ℕ) (f : Header × List Entry) → IsFound b f → AreOrdered 0 f.1 None
->>>>>>> c01026de3f8f132323d3d4743807e7ffb5d95c0c
 found_ordered b f s = subst (λ l. AreOrdered 0 l None) s.runs (parts_in_order b s.out whole_part (omega arith, omega arith, tt) s.fine)
 
 -- what an entry leads to
@@ -189,11 +170,7 @@ looked_long hs bs p bytes is = by (slice_get hs p.source) is
     by (Some h) is = range_long (get_or bs p.source []) (h.data_offset + p.entry.offset) p.entry.length bytes is
 
 -- the tile of a source at an id is that of its run
-<<<<<<< HEAD
-pub run_tile : (hs : List Header) (bs : List (List ℕ)) (t k : ℕ) (b : List ℕ) (f : Header × List Entry) (e : Entry) → IsFound b f → get_or bs k [] ≡ b → slice_get hs k ≡ Some f.0 → covering t f.1 ≡ Some e → IsTile hs bs (piece k e) (archive_map b t)
-=======
 run_tile : (hs : List Header) (bs : List (List ℕ)) (t k : ℕ) (b : List ℕ) (f : Header × List Entry) (e : Entry) → IsFound b f → get_or bs k [] ≡ b → slice_get hs k ≡ Some f.0 → covering t f.1 ≡ Some e → IsTile hs bs (piece k e) (archive_map b t)
->>>>>>> c01026de3f8f132323d3d4743807e7ffb5d95c0c
 run_tile hs bs t k b f e s one head is =
     let some : 1 ≤ e.length = some_covering t f.1 e (subst AllSome s.runs (some_parts whole (met b s.out).entries)) is in
     record {
@@ -205,10 +182,6 @@ run_tile hs bs t k b f e s one head is =
           ∙ held_some f.0 b e bytes range (omega (arith, some, long));
     }
 
-<<<<<<< HEAD
-pub run_none : (t : ℕ) (b : List ℕ) (f : Header × List Entry) → IsFound b f → covering t f.1 ≡ None → archive_map b t ≡ None
-run_none t b f s none = map_held b s.out t s.opens s.fine ∙ ap (λ l. held s.out.0 b (covering t l)) s.runs ∙ ap (held s.out.0 b) none
-=======
 run_none : (t : ℕ) (b : List ℕ) (f : Header × List Entry) → IsFound b f → covering t f.1 ≡ None → archive_map b t ≡ None
 run_none t b f s none = map_held b s.out t s.opens s.fine ∙ ap (λ l. held s.out.0 b (covering t l)) s.runs ∙ ap (held s.out.0 b) none
 
@@ -257,7 +230,7 @@ more_tiles most n g front bs (b ∷ rest) last t below is whole many heads order
         let s = is_found most n b f at in
         let o = found_ordered b f s in
         let head : slice_get last.headers n ≡ Some f.0 =
-            header_kept most (n + 1) (with_source g n f) rest last n f.0 is (let m = length-append g.headers (f.0 ∷ []) in omega (arith, m, heads)) ∙ ap (slice_get (g.headers ++ f.0 ∷ [])) (sym heads) ∙ next_header g.headers f.0 in
+        header_kept most (n + 1) (with_source g n f) rest last n f.0 is (let m = length-append g.headers (f.0 ∷ []) in omega (arith, m, heads)) ∙ ap (slice_get (g.headers ++ f.0 ∷ [])) (sym heads) ∙ next_header g.headers f.0 in
         let count : n + 1 + length rest ≡ n + length (b ∷ rest) = omega arith in
         subst (λ k. HasTiles bs k last t (joined_over below (b ∷ rest) t)) count
         (next f is (over_ordered n 0 0 f.1 g.pieces (omega arith) o order)
@@ -265,4 +238,3 @@ more_tiles most n g front bs (b ∷ rest) last t below is whole many heads order
 
 pub sources_tiles : (most : ℕ) (bs : List (List ℕ)) (g : Gathered) (t : ℕ) → gathered most bs ≡ Ok g → HasTiles bs (0 + length bs) g t (joined bs t)
 sources_tiles most bs g t is = more_tiles most 0 none_yet [] bs bs g t no_tiles is refl refl refl (omega arith) refl
->>>>>>> c01026de3f8f132323d3d4743807e7ffb5d95c0c

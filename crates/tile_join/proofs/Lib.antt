@@ -10,9 +10,6 @@ pub mod PartLemmas
 pub mod HeaderLemmas
 pub mod OneLemmas
 pub mod PlanLemmas
-pub mod MapLemmas
-pub mod JoinedLemmas
-pub mod TilesLemmas
 pub mod DoneLemmas
 pub mod MapLemmas
 pub mod JoinedLemmas

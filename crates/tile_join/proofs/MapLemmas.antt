@@ -159,11 +159,7 @@ over_lacks t n from low (d ∷ es) others le o p none = by (has_id t d) refl (λ
         past : (t < d.tile_id) ⊎ (d.tile_id ≤ t) → (t < d.tile_id + d.run_length) ⊎ (d.tile_id + d.run_length ≤ t) → LooksAs (spot t others) (spot t (between low d.tile_id others ++ piece n d ∷ over (d.tile_id + d.run_length) (numbered n es) others))
         past (inl less) ends =
             let later : spot t (piece n d ∷ over (d.tile_id + d.run_length) (numbered n es) others) ≡ None =
-<<<<<<< HEAD
             spot_later t (piece n d) (over (d.tile_id + d.run_length) (numbered n es) others) out ∙ spot_low t (n + 1) (d.tile_id + d.run_length) (over (d.tile_id + d.run_length) (numbered n es) others) (over_ordered n (d.tile_id + d.run_length) from es others o.2 o.3 p) (omega (arith, less)) in
-=======
-                spot_later t (piece n d) (over (d.tile_id + d.run_length) (numbered n es) others) out ∙ spot_low t (n + 1) (d.tile_id + d.run_length) (over (d.tile_id + d.run_length) (numbered n es) others) (over_ordered n (d.tile_id + d.run_length) from es others o.2 o.3 p) (omega (arith, less)) in
->>>>>>> c01026de3f8f132323d3d4743807e7ffb5d95c0c
             subst (LooksAs (spot t others)) (sym (spot_before t (between low d.tile_id others) (piece n d ∷ over (d.tile_id + d.run_length) (numbered n es) others) later)) (between_inside t low d.tile_id others le less)
         past (inr start) (inl ends) = absurd (true≢false (sym (has_by t d.tile_id d.run_length start ends) ∙ out))
         past (inr start) (inr ends) =

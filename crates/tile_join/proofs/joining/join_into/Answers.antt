@@ -12,11 +12,7 @@ returns-in-Ok-write_pieces-clause-answers g c =
     let again = all_told (map g.B.Backend.told c.plan.new.sources.items) in
     let told = g.M.Backend.told c.write_pieces.new.medium in
     let p = c.in-Ok.planned in
-<<<<<<< HEAD
-    done_answers c.args.max_tiles p.0 p.1.items p.2.items _ c.in-Ok.ensures.ordered told (g.M.Backend.told c.args.medium.now) source c.in-Ok-write_pieces.written (sym c.write_pieces.ensures.medium_kept.tells) c.in-Ok.ensures.planned
-=======
     done_answers c.args.max_tiles p.0 p.1.items p.2.items told (g.M.Backend.told c.args.medium.now) source c.in-Ok-write_pieces.written (sym c.write_pieces.ensures.medium_kept.tells) c.in-Ok.ensures.planned
->>>>>>> c01026de3f8f132323d3d4743807e7ffb5d95c0c
     (as_planned (λ o hs s ps. WritesPieces o hs s ps told (Ok c.in-Ok-write_pieces.written)) source again p.0 _ p.1.items c.deref.result.now p.2.items c.deref-2.result.now refl c.deref.ensures.value c.deref-2.ensures.value (ap all_told c.plan.ensures.kept.told) c.in-Ok-write_pieces.ensures.written)
 
 pub returns-in-Ok-write_pieces-clause-leaves : goal.returns-in-Ok-write_pieces-clause-leaves
@@ -25,11 +21,7 @@ returns-in-Ok-write_pieces-clause-leaves g c =
     let again = all_told (map g.B.Backend.told c.plan.new.sources.items) in
     let told = g.M.Backend.told c.write_pieces.new.medium in
     let p = c.in-Ok.planned in
-<<<<<<< HEAD
-    done_leaves c.args.max_tiles p.0 p.1.items p.2.items _ c.in-Ok.ensures.ordered source told c.in-Ok-write_pieces.written c.in-Ok.ensures.few c.in-Ok.ensures.planned
-=======
     done_leaves c.args.max_tiles p.0 p.1.items p.2.items source told c.in-Ok-write_pieces.written c.in-Ok.ensures.few c.in-Ok.ensures.planned
->>>>>>> c01026de3f8f132323d3d4743807e7ffb5d95c0c
     (as_planned (λ o hs s ps. WritesPieces o hs s ps told (Ok c.in-Ok-write_pieces.written)) source again p.0 _ p.1.items c.deref.result.now p.2.items c.deref-2.result.now refl c.deref.ensures.value c.deref-2.ensures.value (ap all_told c.plan.ensures.kept.told) c.in-Ok-write_pieces.ensures.written)
 
 pub returns-clause-answers : goal.returns-clause-answers
@@ -38,11 +30,7 @@ returns-clause-answers g c =
     let again = all_told (map g.B.Backend.told c.plan.new.sources.items) in
     let told = g.M.Backend.told c.write_pieces.new.medium in
     let p = c.in-Ok.planned in
-<<<<<<< HEAD
-    late_answers c.args.max_tiles p.0 p.1.items p.2.items _ c.in-Ok.ensures.ordered source told (g.M.Backend.told c.args.medium.now) _ _ _ _ c.in-Err-write_pieces.error (sym c.write_pieces.ensures.medium_kept.tells) c.in-Ok.ensures.planned c.in-Err-write_pieces.ensures.causes
-=======
     late_answers c.args.max_tiles p.0 p.1.items p.2.items source told (g.M.Backend.told c.args.medium.now) _ _ _ _ c.in-Err-write_pieces.error (sym c.write_pieces.ensures.medium_kept.tells) c.in-Ok.ensures.planned c.in-Err-write_pieces.ensures.causes
->>>>>>> c01026de3f8f132323d3d4743807e7ffb5d95c0c
     (as_planned (λ o hs s ps. WritesPieces o hs s ps told (Err c.in-Err-write_pieces.error)) source again p.0 _ p.1.items c.deref.result.now p.2.items c.deref-2.result.now refl c.deref.ensures.value c.deref-2.ensures.value (ap all_told c.plan.ensures.kept.told) c.in-Err-write_pieces.ensures.written)
 
 pub returns-clause-leaves : goal.returns-clause-leaves
@@ -51,11 +39,7 @@ returns-clause-leaves g c =
     let again = all_told (map g.B.Backend.told c.plan.new.sources.items) in
     let told = g.M.Backend.told c.write_pieces.new.medium in
     let p = c.in-Ok.planned in
-<<<<<<< HEAD
-    late_leaves c.args.max_tiles p.0 p.1.items p.2.items _ c.in-Ok.ensures.ordered source told _ _ _ _ c.in-Err-write_pieces.error c.in-Ok.ensures.few c.in-Ok.ensures.planned c.in-Err-write_pieces.ensures.causes
-=======
     late_leaves c.args.max_tiles p.0 p.1.items p.2.items source told _ _ _ _ c.in-Err-write_pieces.error c.in-Ok.ensures.few c.in-Ok.ensures.planned c.in-Err-write_pieces.ensures.causes
->>>>>>> c01026de3f8f132323d3d4743807e7ffb5d95c0c
     (as_planned (λ o hs s ps. WritesPieces o hs s ps told (Err c.in-Err-write_pieces.error)) source again p.0 _ p.1.items c.deref.result.now p.2.items c.deref-2.result.now refl c.deref.ensures.value c.deref-2.ensures.value (ap all_told c.plan.ensures.kept.told) c.in-Err-write_pieces.ensures.written)
     (as_planned (λ o hs s ps. IfSome told (ShowsNone o hs s ps)) source again p.0 _ p.1.items c.deref.result.now p.2.items c.deref-2.result.now refl c.deref.ensures.value c.deref-2.ensures.value (ap all_told c.plan.ensures.kept.told) c.in-Err-write_pieces.ensures.shown)
 
@@ -65,10 +49,6 @@ returns-clause-uncompared g c =
     let again = all_told (map g.B.Backend.told c.plan.new.sources.items) in
     let told = g.M.Backend.told c.write_pieces.new.medium in
     let p = c.in-Ok.planned in
-<<<<<<< HEAD
-    late_uncompared c.args.max_tiles p.0 p.1.items p.2.items _ c.in-Ok.ensures.ordered source told (g.M.Backend.told c.args.medium.now) _ _ _ _ (g.M.Backend.reads c.args.medium.now) (g.M.Backend.reads c.write_pieces.new.medium) c.in-Err-write_pieces.error (sym c.write_pieces.ensures.medium_kept.tells) c.in-Ok.ensures.planned
-=======
     late_uncompared c.args.max_tiles p.0 p.1.items p.2.items source told (g.M.Backend.told c.args.medium.now) _ _ _ _ (g.M.Backend.reads c.args.medium.now) (g.M.Backend.reads c.write_pieces.new.medium) c.in-Err-write_pieces.error (sym c.write_pieces.ensures.medium_kept.tells) c.in-Ok.ensures.planned
->>>>>>> c01026de3f8f132323d3d4743807e7ffb5d95c0c
     c.in-Err-write_pieces.ensures.causes
     (as_planned (λ o hs s ps. WritesPieces o hs s ps told (Err c.in-Err-write_pieces.error)) source again p.0 _ p.1.items c.deref.result.now p.2.items c.deref-2.result.now refl c.deref.ensures.value c.deref-2.ensures.value (ap all_told c.plan.ensures.kept.told) c.in-Err-write_pieces.ensures.written)
