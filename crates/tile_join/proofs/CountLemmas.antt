@@ -1,6 +1,6 @@
 -- Why adding runs ends as it does, by the counts of faults of the sources and of the medium.
-use Rattle.tile_join.proofs.Common.{arith, Archive, Err, JoinError, length, List, MediumFault, MediumStands, MediumStandsAt, of_add_error, of_read, OutOfMemory, Piece, PieceCauses, PmtError, RangeCauses, ReadFails, refl, Rose, slice_index, SourcesStand, SourcesStandAt}
-use Rattle.tile_join.proofs.Common.{StandsAtError, subst, sym, WriteCauses, ℕ, ◌<◌, ◌∙◌, ◌≡◌, ◌≤◌}
+use Rattle.tile_join.proofs.Common.{arith, Archive, Err, JoinError, length, List, MediumStandsAt, of_add_error, of_read, OutOfMemory, Piece, PieceCauses, PmtError, RangeCauses, ReadFails, refl, Rose, slice_index, SourcesStandAt}
+use Rattle.tile_join.proofs.Common.{subst, sym, WriteCauses, ℕ, ◌<◌, ◌∙◌, ◌≡◌, ◌≤◌}
 use Rattle.pm_format.specs.declared.error.PmtError.TheVariants as errors
 use Rattle.pm_format.specs.declared.error.ReadCause.TheVariants as causes
 use Rattle.tile_extract.specs.Faults as faults

@@ -1,5 +1,5 @@
 -- The archive of the runs of sources, finished or refused.
-use Rattle.tile_join.proofs.Common.{Adds, ap, Archive, archive, ArchivePlaces, arith, canon_is, ComesTo, Due, entries_sorted, Err, gathered, Gathered, gathered_of, Header, header_of, IfSome, IndexEntryOverflow, inl, inr, is_some, IsArchiveOf, IsHidden, IsPlanned, IsWritten}
+use Rattle.tile_join.proofs.Common.{Adds, ap, Archive, archive, ArchivePlaces, arith, canon_is, ComesTo, entries_sorted, Err, gathered, Gathered, gathered_of, Header, header_of, IfSome, IndexEntryOverflow, inl, inr, is_some, IsHidden, IsPlanned, IsWritten}
 use Rattle.tile_join.proofs.Common.{JoinError, length, List, map, MediumFault, None, Ok, Option, Options, OutOfMemory, Piece, piece_count, PiecesOverflow, PiecesRefuse, places_read, PmtError, put_pieces, Read, ReaderState, ReadFails, refl, Result, Rises, ShowsNone, slice_index, Some}
 use Rattle.tile_join.proofs.Common.{sorted_formed, subst, sym, true, WriteCauses, WritesPieces, ℕ, [], ◌∙◌, ◌≡◌, ◌≤◌}
 use Rattle.pm_format.specs.WellFormed.{WellFormed}

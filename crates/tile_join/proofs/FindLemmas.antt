@@ -1,6 +1,6 @@
 -- What is found of one source.
-use Rattle.tile_join.proofs.Common.{ap, Archive, arith, Entry, Err, find_reads, FindCauses, found, found_few, found_met, found_opened, Header, header_of, JoinError, List, met, nat_le, nat_tests, None, of_collect, of_read, Ok, opened, Option, OutOfMemory, PmtError, ReaderState, IfSome}
-use Rattle.tile_join.proofs.Common.{reads_opened, ReadCauses, refl, Refuses, Result, root_of, runs_met, Some, SourceStandsAt, StandsAtError, subst, sym, tile_count, TooManyTiles, true, false, walked, Walked, whole, ℕ, ◌+◌, ◌<◌, ◌∙◌, ◌≡◌, ◌≤◌}
+use Rattle.tile_join.proofs.Common.{ap, Archive, arith, Entry, Err, find_reads, FindCauses, found, found_few, found_met, found_opened, header_of, JoinError, List, nat_le, nat_tests, None, of_collect, of_read, Ok, opened, Option, PmtError, ReaderState, IfSome}
+use Rattle.tile_join.proofs.Common.{reads_opened, refl, Refuses, Result, root_of, runs_met, Some, SourceStandsAt, StandsAtError, subst, sym, tile_count, TooManyTiles, true, false, walked, Walked, whole, ℕ, ◌+◌, ◌<◌, ◌∙◌, ◌≡◌, ◌≤◌}
 use Rattle.pm_format.specs.declared.error.PmtError.TheVariants as errors
 use Rattle.pm_format.specs.declared.error.ReadCause.TheVariants as causes
 use Rattle.pm_reader.specs.Opening.{OpenAnswers, OpenCauses, OpensAs}

@@ -1,5 +1,5 @@
 -- The archive of runs, finished or refused.
-use Rattle.tile_join.proofs.Common.{adds_distinct, archive, ArchivePlaces, arith, Bool, ComesTo, Err, false, FinishCauses, Header, IfSome, IndexEntryOverflow, inl, inr, is_some, IsHiddenOr, IsWritten, List, None, of_write_error, Ok, Option, Options, OutOfMemory}
+use Rattle.tile_join.proofs.Common.{adds_distinct, archive, ArchivePlaces, arith, Bool, ComesTo, Err, false, FinishCauses, Header, IfSome, inl, inr, is_some, IsHiddenOr, IsWritten, List, None, of_write_error, Ok, Option, Options}
 use Rattle.tile_join.proofs.Common.{Piece, PiecesAdded, PiecesOverflow, places_of, PmtError, ShowsNone, Some, sym, true≢false, WriteCauses, WriterState, WritesPieces, ℕ, ◌∙◌, ◌≡◌, ◌≤◌}
 use Rattle.pm_format.specs.declared.error.PmtError.TheVariants as errors
 use Rattle.pm_format.specs.declared.error.ReadCause.TheVariants as causes

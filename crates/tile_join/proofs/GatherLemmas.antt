@@ -1,7 +1,7 @@
 -- What is found of sources, one after another.
-use Rattle.tile_join.proofs.Common.{all_told, ap, Archive, AreOnlyRead, arith, Different, drop, drop_all, Err, FindCauses, find_reads, found, gather_reads, GatherCauses, gathered, Gathered, gathered_from, gathered_of, get_or, get_or-map, IfErr, IfSome}
-use Rattle.tile_join.proofs.Common.{IndexEntryOverflow, InOrder, IsAdded, JoinError, length, length-map, List, map, MediumFault, MediumNotEmpty, none_yet, NoSource, Ok, Option, OutOfMemory, Piece, ReadCauses, ReaderState, ReadsOnly, refl, Refuses, Result, set, slice_index}
-use Rattle.tile_join.proofs.Common.{chain, Some, SourceStands, StandsAtError, subst, sym, TooManyTiles, total, with_source, ℕ, [], ◌+◌, ◌<◌, ◌∙◌, ◌∷◌, ◌≡◌, ◌≤◌}
+use Rattle.tile_join.proofs.Common.{all_told, ap, Archive, AreOnlyRead, arith, drop, drop_all, Err, FindCauses, find_reads, found, gather_reads, GatherCauses, gathered, gathered_from, gathered_of, get_or, IfSome}
+use Rattle.tile_join.proofs.Common.{InOrder, IsAdded, JoinError, length, length-map, List, map, Ok, Option, OutOfMemory, Piece, ReadCauses, ReaderState, ReadsOnly, refl, Refuses, Result, set, slice_index}
+use Rattle.tile_join.proofs.Common.{chain, Some, SourceStands, subst, sym, TooManyTiles, total, with_source, ℕ, [], ◌+◌, ◌<◌, ◌∙◌, ◌∷◌, ◌≡◌, ◌≤◌}
 use Rattle.pm_format.specs.declared.error.PmtError.TheVariants as errors
 use Rattle.pm_format.specs.declared.error.ReadCause.TheVariants as causes
 use Rattle.tile_join.proofs.Common.{AreOrdered, Entry, header_of, map-append, SourcesStandAt, None, numbered, over, ◌++◌}

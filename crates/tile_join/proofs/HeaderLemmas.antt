@@ -1,5 +1,5 @@
 -- The headers of the sources.
-use Rattle.tile_join.proofs.Common.{All, ap, arith, Header, header_of, length, List, map, max, min, ReaderState, refl, subst, suc, sym, zero, ℕ, [], ◌+◌, ◌∙◌, ◌∷◌, ◌≡◌}
+use Rattle.tile_join.proofs.Common.{All, ap, arith, Header, header_of, length, List, map, max, min, ReaderState, subst, suc, sym, ℕ, [], ◌+◌, ◌∙◌, ◌∷◌, ◌≡◌}
 use Rattle.std.proofs.Common.{ℤ}
 use Rattle.std.proofs.lemmas.List.Elements.{All-cons, All-nil}
 use Rattle.std.specs.Int.{int_max, int_min}

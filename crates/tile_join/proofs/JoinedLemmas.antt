@@ -1,7 +1,7 @@
 -- The map of the archive that is joined.
-use Rattle.tile_join.proofs.Common.{add_to, Adds, ap, append_assoc, AreOrdered, arith, Bool, drop, Entry, entry, Err, false, found, found_few, found_met, found_opened, gathered, Gathered, gathered_from, get_or, Header, ids_of, if◌then◌else◌, InOrder}
-use Rattle.tile_join.proofs.Common.{JoinError, length, List, look_in, looked, MAX_TILE_ID, met, nat_le, None, none-some, none_yet, numbered, Ok, Opened, opened, Option, Options, over, Piece, piece, put_all, put_pieces, refl, Result, runs_met, slice_get, Some}
-use Rattle.tile_join.proofs.Common.{subst, sym, take, true, whole, with_source, ℕ, [], ◌&&◌, ◌++◌, ◌+◌, ◌<◌, ◌∙◌, ◌∷◌, ◌≡◌, ◌≤◌, ◌≢◌}
+use Rattle.tile_join.proofs.Common.{ap, append_assoc, AreOrdered, arith, Bool, drop, Entry, entry, Err, false, found, found_few, found_met, found_opened, gathered, Gathered, gathered_from, get_or, Header, if◌then◌else◌, InOrder}
+use Rattle.tile_join.proofs.Common.{JoinError, length, List, look_in, looked, MAX_TILE_ID, met, nat_le, None, none-some, none_yet, numbered, Ok, Opened, opened, Option, over, Piece, piece, refl, Result, runs_met, slice_get, Some}
+use Rattle.tile_join.proofs.Common.{subst, sym, take, true, whole, with_source, ℕ, [], ◌&&◌, ◌++◌, ◌+◌, ◌<◌, ◌∙◌, ◌∷◌, ◌≡◌, ◌≤◌}
 use Rattle.std.proofs.Common.{◌||◌}
 use Rattle.std.proofs.Math.Seq.{get_or-append_seam}
 use Rattle.std.proofs.lemmas.List.{get_or_append_left, length-append}
@@ -19,7 +19,7 @@ use Rattle.tile_extract.proofs.CutLemmas.{cut_held, parts_in_order}
 use Rattle.tile_extract.specs.Part.{cut}
 use Rattle.tile_extract.specs.declared.part.TilePart.{TilePart}
 use Rattle.tile_join.proofs.Common.{and_parts, max, min, nat_eq, nat_lt, nat_tests, PmtError, tile_count, true≢false, ◌-◌, ◌^◌}
-use Rattle.pm_walk.proofs.CoveringLemmas.{covering, covers_here}
+use Rattle.pm_walk.proofs.CoveringLemmas.{covering}
 use Rattle.tile_join.proofs.MapLemmas.{LooksAs, over_has, over_lacks, SameData, spot}
 use Rattle.tile_join.specs.Common.{archive_map, range_of}
 use Rattle.tile_join.specs.Join.{joined, joined_over, no_tiles, over_tile}

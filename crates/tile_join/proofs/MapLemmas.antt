@@ -1,7 +1,7 @@
 -- The tiles of runs that are laid over others.
-use Rattle.tile_join.proofs.Common.{all_told, and_from, and_parts, ap, append_assoc, AreOrdered, arith, between, Bool, cut_out, end_of, Entry, entry, false, Header, header_of, if◌then◌else◌, InOrder, length, List, MAX_TILE_ID, map, max, min, nat_le, nat_lt, nat_tests, None}
-use Rattle.tile_join.proofs.Common.{none-some, numbered, Option, over, Piece, piece, refl, Some, subst, sym, true, true≢false, ℕ, [], ◌&&◌, ◌++◌, ◌+◌, ◌-◌, ◌<◌, ◌∙◌, ◌∷◌, ◌≡◌, ◌≢◌, ◌≤◌, ◌⊎◌, inl, inr}
-use Rattle.pm_walk.proofs.CoveringLemmas.{covering, covers_here, covers_later, has_id, in_run, lt_by, le_by, never, none_below, to_le, to_lt}
+use Rattle.tile_join.proofs.Common.{and_from, and_parts, ap, AreOrdered, arith, between, Bool, cut_out, end_of, Entry, entry, false, if◌then◌else◌, InOrder, List, MAX_TILE_ID, max, min, nat_le, nat_lt, None}
+use Rattle.tile_join.proofs.Common.{none-some, numbered, Option, over, Piece, piece, refl, Some, subst, sym, true, true≢false, ℕ, [], ◌++◌, ◌+◌, ◌-◌, ◌<◌, ◌∙◌, ◌∷◌, ◌≡◌, ◌≤◌, ◌⊎◌, inl, inr}
+use Rattle.pm_walk.proofs.CoveringLemmas.{covering, has_id, in_run, lt_by, le_by, never, none_below, to_le, to_lt}
 use Rattle.std.proofs.lemmas.Bool.{cases_lt}
 use Rattle.tile_join.proofs.OverLemmas.{over_ordered}
 

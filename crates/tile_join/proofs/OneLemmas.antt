@@ -1,15 +1,13 @@
 -- One source that is read: the contents of a run, or the metadata of the last one.
-use Rattle.tile_join.proofs.Common.{all_told, ap, arith, Archive, as_read, Err, get_or, Header, header_of, IfSome, JoinError, length, length-map, List, look_in, looked, map, None, of_read, Ok, Option, option_map, OutOfMemory, Piece, PieceRead, PmtError, range_read, ReaderState}
-use Rattle.tile_join.proofs.Common.{refl, Result, slice_get, slice_get-get_or, slice_get-map, slice_index, Some, SourcesStand, SourceStands, StandsAtError, subst, sym, ReadCauses, ℕ, [], ◌+◌, ◌-◌, ◌<◌, ◌∙◌, ◌∷◌, ◌≡◌, ◌≢◌}
+use Rattle.tile_join.proofs.Common.{ap, Archive, as_read, Err, get_or, header_of, JoinError, length, List, look_in, looked, map, None, of_read, Ok, Option, option_map, Piece, PieceRead, PmtError, range_read, ReaderState}
+use Rattle.tile_join.proofs.Common.{refl, Result, slice_get, slice_get-get_or, slice_get-map, slice_index, Some, subst, sym, ReadCauses, ℕ, [], ◌+◌, ◌<◌, ◌∙◌, ◌≡◌}
 use Rattle.pm_format.specs.declared.error.PmtError.TheVariants as errors
 use Rattle.pm_format.specs.declared.error.ReadCause.TheVariants as causes
 use Rattle.pm_reader.specs.Answers.{Gives}
 use Rattle.pm_reader.specs.Metadata.{MetadataAnswers, MetadataCauses, metadata_read}
-use Rattle.tile_join.proofs.FindLemmas.{read_stands}
-use Rattle.tile_join.proofs.SourceLemmas.{where_told, as_told}
 use Rattle.tile_join.specs.Common.{range_of}
 use Rattle.tile_join.specs.Join.{last_of}
-use Rattle.tile_join.specs.Opening.{IsLastText, TextCauses, TextRead, TextRefused}
+use Rattle.tile_join.specs.Opening.{TextCauses, TextRead, TextRefused}
 
 -- the header of the reader with a number
 pub header_at : (readers : List ReaderState) (n : ℕ) (s : ReaderState) → n < length readers → s ≡ get_or readers n s → slice_get (map header_of readers) n ≡ Some (header_of s)

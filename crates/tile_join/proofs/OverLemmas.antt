@@ -1,5 +1,5 @@
 -- Runs that are laid over others.
-use Rattle.tile_join.proofs.Common.{ap, append-nil, append_assoc, AreLeft, AreOrdered, arith, between, Bool, cut_out, end_of, Entry, entry, false, if◌then◌else◌, InOrder, length, List, MAX_TILE_ID, max, min, nat_lt, nat_tests, None, numbered, over}
+use Rattle.tile_join.proofs.Common.{ap, append-nil, append_assoc, AreLeft, AreOrdered, arith, between, Bool, cut_out, end_of, Entry, entry, false, if◌then◌else◌, InOrder, List, MAX_TILE_ID, max, min, nat_lt, nat_tests, None, numbered, over}
 use Rattle.tile_join.proofs.Common.{Piece, piece, refl, subst, sym, true, ℕ, [], ◌++◌, ◌+◌, ◌-◌, ◌<◌, ◌∙◌, ◌∷◌, ◌≡◌, ◌≤◌}
 
 pub not_less : (m n : ℕ) → n ≤ m → nat_lt m n ≡ false

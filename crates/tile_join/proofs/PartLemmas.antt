@@ -1,5 +1,5 @@
 -- The parts of an archive, joined.
-use Rattle.tile_join.proofs.Common.{ap, Bool, false, if◌then◌else◌, List, None, Option, refl, Some, subst, sym, true, true≢false, ℕ, [], ◌∙◌, ◌∷◌, ◌≡◌}
+use Rattle.tile_join.proofs.Common.{ap, Bool, false, if◌then◌else◌, List, None, Option, refl, Some, sym, true, true≢false, ℕ, [], ◌∙◌, ◌∷◌, ◌≡◌}
 use Rattle.std.proofs.Common.{◌||◌}
 use Rattle.pm_walk.specs.Intervals.{in_intervals}
 use Rattle.tile_extract.specs.Part.{cut}

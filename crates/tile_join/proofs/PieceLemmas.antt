@@ -1,6 +1,6 @@
 -- Runs whose contents are added one after another.
-use Rattle.tile_join.proofs.Common.{add_to, Adds, all_told, ap, Archive, arith, Bool, ByRoom, ComesTo, EndsBy, Err, false, Header, ids_of, IfSome, IndexEntryOverflow, InOrder, is_some, JoinError, length, List, looked, MediumFault, None, of_add_error, Ok, Option}
-use Rattle.tile_join.proofs.Common.{Options, OutOfMemory, past_end, Piece, piece_count, PieceRead, PiecesAdded, PiecesPut, PiecesRefuse, put_all, put_next, put_pieces, Puts, PutsAll, PutsFound, PutsNext, PutsPieces, refl, Result, Some, subst, sym, Took, took_as, true}
+use Rattle.tile_join.proofs.Common.{add_to, Adds, ap, Archive, arith, Bool, ByRoom, ComesTo, EndsBy, Err, false, Header, ids_of, IfSome, IndexEntryOverflow, InOrder, is_some, JoinError, length, List, looked, None, of_add_error, Ok, Option}
+use Rattle.tile_join.proofs.Common.{Options, OutOfMemory, past_end, Piece, piece_count, PieceRead, PiecesPut, PiecesRefuse, put_all, put_next, put_pieces, Puts, PutsAll, PutsFound, PutsNext, PutsPieces, refl, Result, Some, subst, sym, Took, took_as, true}
 use Rattle.tile_join.proofs.Common.{Writes, WriterState, ℕ, [], ◌+◌, ◌<◌, ◌∙◌, ◌∷◌, ◌≡◌, ◌≤◌}
 use Rattle.pm_format.specs.declared.error.PmtError.TheVariants as errors
 use Rattle.pm_format.specs.declared.error.ReadCause.TheVariants as causes

@@ -1,7 +1,7 @@
 -- What is found before the tiles are written.
-use Rattle.tile_join.proofs.Common.{all_told, Bool, Different, false, IfSome, nat_le, nat_tests, None, Option, PlanCauses, suc, TextCauses, TextRead, true, zero, ◌+◌, ◌∷◌}
+use Rattle.tile_join.proofs.Common.{all_told, Bool, Different, false, IfSome, nat_le, nat_tests, None, Option, PlanCauses, suc, TextCauses, TextRead, true, zero, ◌∷◌}
 use Rattle.tile_join.proofs.SourceLemmas.{told_long}
-use Rattle.tile_join.proofs.Common.{All, ap, Archive, arith, Due, Err, gathered, Gathered, gathered_of, GatherCauses, get_or, Header, header_of, inl, inr, IsAlike, IsEarly, IsLastText, IsPlanned, JoinError, last_of, length, length-map, List, map, none-some, Ok, option_map}
+use Rattle.tile_join.proofs.Common.{All, ap, Archive, arith, Err, gathered, Gathered, gathered_of, GatherCauses, get_or, Header, header_of, inl, inr, IsAlike, IsEarly, IsLastText, IsPlanned, JoinError, last_of, length, length-map, List, map, Ok, option_map}
 use Rattle.tile_join.proofs.Common.{Options, options_for, OutOfMemory, Piece, piece_count, Read, ReaderState, refl, Refuses, same_Some, slice_get, slice_get-get_or, slice_get-map, Some, subst, sym, TextRefused, TooManyTiles, UnlikeAt, ℕ, [], ◌-◌, ◌<◌, ◌∙◌, ◌≡◌, ◌≢◌, ◌≤◌}
 use Rattle.pm_format.specs.declared.error.PmtError.TheVariants as errors
 use Rattle.pm_format.specs.declared.error.ReadCause.TheVariants as causes

@@ -1,6 +1,6 @@
 -- The tiles of what runs come to, by their ids.
-use Rattle.tile_join.proofs.Common.{Adds, ap, append-nil, append_assoc, AreOrdered, arith, Bool, end_of, Err, false, get_or, Header, ids_of, if◌then◌else◌, InOrder, JoinError, length, List, look_in, looked, none-some, None, Ok, Option, Options, past_end, Piece, put_all, put_next, put_pieces, refl, Result}
-use Rattle.tile_join.proofs.Common.{slice_get, Some, subst, sym, tile_in, true, ℕ, [], ◌++◌, ◌+◌, ◌∙◌, ◌∷◌, ◌≡◌, ◌≤◌, nat_eq}
+use Rattle.tile_join.proofs.Common.{Adds, ap, append-nil, append_assoc, AreOrdered, arith, Bool, end_of, Err, false, get_or, Header, ids_of, if◌then◌else◌, InOrder, JoinError, List, look_in, looked, none-some, None, Ok, Option, Options, past_end, Piece, put_all, put_next, put_pieces, refl, Result}
+use Rattle.tile_join.proofs.Common.{slice_get, Some, sym, tile_in, true, ℕ, [], ◌++◌, ◌∙◌, ◌∷◌, ◌≡◌, ◌≤◌, nat_eq}
 use Rattle.pm_format.specs.declared.error.PmtError.TheVariants as errors
 use Rattle.pm_format.specs.declared.error.ReadCause.TheVariants as causes
 use Rattle.pm_walk.proofs.CoveringLemmas.{covers_here, covers_later, has_id}
@@ -10,9 +10,8 @@ use Rattle.tile_extract.proofs.TileLemmas.{all_behind, put_is}
 use Rattle.tile_extract.specs.Written as written
 use Rattle.tile_extract.specs.declared.error.ExtractError.{ExtractError}
 use Rattle.tile_extract.specs.declared.error.ExtractError.TheVariants as extract
-use Rattle.tile_join.proofs.JoinedLemmas.{held_some, IsTile, looked_long, TileAt}
+use Rattle.tile_join.proofs.JoinedLemmas.{held_some, looked_long, TileAt}
 use Rattle.tile_join.proofs.MapLemmas.{spot}
-use Rattle.tile_join.specs.Common.{range_of}
 
 -- adds before others
 tile_behind : (xs ys : Adds) (t : ℕ) → tile_in xs t ≡ None → tile_in (xs ++ ys) t ≡ tile_in ys t

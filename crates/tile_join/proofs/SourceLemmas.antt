@@ -1,7 +1,7 @@
 -- Several sources of which one is read.
-use Rattle.tile_join.proofs.Common.{All, All-get_or, All-set, all_told, ap, AreOnlyRead, Archive, arith, Different, drop, Err, get_or, get_or-map, get_or-set_other, get_or-set_same, IfSome, IndexEntryOverflow, JoinError, length, length-map, length-set, List, map}
+use Rattle.tile_join.proofs.Common.{All-get_or, All-set, all_told, ap, AreOnlyRead, Archive, arith, Different, drop, Err, get_or, get_or-map, get_or-set_other, get_or-set_same, IfSome, IndexEntryOverflow, JoinError, length, length-map, List, map}
 use Rattle.tile_join.proofs.Common.{map-set, map-set_same, MediumFault, MediumNotEmpty, None, NoneFell, NoSource, Ok, Option, OthersStand, OutOfMemory, ReadsOnly, refl, Result, set, slice_index, Some, SourcesStand, SourceStands, subst, suc, sym, TooManyTiles}
-use Rattle.tile_join.proofs.Common.{StandsAtError, total, zero, ℕ, [], ◌+◌, ◌<◌, ◌∙◌, ◌∷◌, ◌≡◌, ◌≢◌, ◌≤◌}
+use Rattle.tile_join.proofs.Common.{StandsAtError, total, zero, ℕ, [], ◌+◌, ◌<◌, ◌∙◌, ◌∷◌, ◌≡◌, ◌≤◌}
 use Rattle.tile_join.specs.Common.{option_map}
 
 -- facts on what may be told

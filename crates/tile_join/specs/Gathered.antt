@@ -1,12 +1,12 @@
 -- What is found of the sources, one after another: their headers, and the runs of their tiles, each over those of the
 -- sources before.
-use Rattle.std.specs.Prelude.{◌≡◌, ◌⊎◌, ◌≢◌, ◌<◌, ◌≤◌, ℕ, ◌+◌, Bool, true, false, List, [], ◌∷◌, ◌++◌, length, nat_le, if◌then◌else◌, Option, Some, None, Result, Ok, Err}
+use Rattle.std.specs.Prelude.{◌≡◌, ℕ, ◌+◌, Bool, true, false, List, [], ◌∷◌, ◌++◌, nat_le, Option, Some, None, Result, Ok, Err}
 use Rattle.pm_format.specs.declared.error.PmtError.TheVariants as errors
 use Rattle.pm_format.specs.declared.error.ReadCause.TheVariants as causes
 use Rattle.pm_walk.specs.declared.error.WalkError.TheVariants as walk
 use Rattle.pm_walk.specs.declared.extent.Extent.TheVariants.{Within}
 use Rattle.tile_join.specs.Common.{Entry, Header, MAX_TILE_ID, Opened, opened, parts, PmtError, ReadCauses, tile_count, Walked, walked, WalkError}
-use Rattle.tile_join.specs.Over.{InOrder, numbered, over}
+use Rattle.tile_join.specs.Over.{numbered, over}
 use Rattle.tile_join.specs.declared.error.JoinError.{JoinError}
 use Rattle.tile_join.specs.declared.error.JoinError.TheVariants.{Archive, OutOfMemory, TooManyTiles}
 use Rattle.tile_join.specs.declared.piece.Piece.{Piece}

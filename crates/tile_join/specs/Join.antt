@@ -1,16 +1,15 @@
 -- What a join answers, why, and what it leaves.
-use Rattle.std.specs.Prelude.{◌≡◌, ◌≢◌, ◌⊎◌, ◌+◌, ◌-◌, ◌<◌, ◌≤◌, ℕ, true, All, get_or, List, [], ◌∷◌, length, slice_get, Option, Some, None, Result, Ok, Err, IfSome}
+use Rattle.std.specs.Prelude.{◌≡◌, ◌⊎◌, ◌-◌, ◌<◌, ◌≤◌, ℕ, true, All, get_or, List, [], ◌∷◌, length, slice_get, Option, Some, None, Result, Ok, Err, IfSome}
 use Rattle.pm_contents.specs.Pieces.{BothTold}
 use Rattle.pm_format.specs.WellFormed.{WellFormed}
 use Rattle.pm_format.specs.declared.error.PmtError.TheVariants as errors
 use Rattle.pm_format.specs.declared.error.ReadCause.TheVariants as causes
-use Rattle.tile_join.specs.Common.{Adds, archive_map, ArchiveFits, ArchivePlaces, canon, entries, FinMap, get, Header, IsArchivable, IsEmpty, IsHidden, IsMetadataRefused, IsUtf8, MayBeTile, metadata_read, nat_cmp, Options, places_of, places_read, PmtError, ReadCauses, Rose}
-use Rattle.tile_join.specs.Gathered.{gather_reads, Gathered, gathered}
+use Rattle.tile_join.specs.Common.{Adds, archive_map, ArchiveFits, ArchivePlaces, canon, entries, FinMap, get, Header, IsArchivable, IsHidden, IsMetadataRefused, IsUtf8, MayBeTile, metadata_read, nat_cmp, Options, places_of, places_read, PmtError}
+use Rattle.tile_join.specs.Gathered.{Gathered, gathered}
 use Rattle.tile_join.specs.Headers.{IsAlike, UnlikeAt, options_for}
 use Rattle.tile_join.specs.Written.{ComesTo, piece_count}
 use Rattle.tile_join.specs.declared.error.JoinError.{JoinError}
 use Rattle.tile_join.specs.declared.error.JoinError.TheVariants.{Archive, Different, IndexEntryOverflow, MediumFault, MediumNotEmpty, NoSource, OutOfMemory, TooManyTiles}
-use Rattle.tile_join.specs.declared.piece.Piece.{Piece}
 
 -- THE MAP: the tile of a later archive over that of an earlier one
 abbrev pub over_tile : Option (List ℕ) → Option (List ℕ) → Option (List ℕ)

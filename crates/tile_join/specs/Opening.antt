@@ -1,12 +1,10 @@
 -- What is found before the tiles are written: the sources, the text of the last one, and that they are alike and few.
-use Rattle.std.specs.Prelude.{◌≡◌, ◌≢◌, ◌+◌, ◌<◌, ◌≤◌, ℕ, All, get_or, List, [], length, map, slice_get, slice_index, Option, Some, Result, Ok, Err, IfSome}
+use Rattle.std.specs.Prelude.{◌≡◌, ◌<◌, ℕ, get_or, List, [], length, slice_get, slice_index, Option, Some, Result, Ok, Err, IfSome}
 use Rattle.pm_format.specs.declared.error.PmtError.TheVariants as errors
 use Rattle.pm_format.specs.declared.error.ReadCause.TheVariants as causes
-use Rattle.pm_reader.specs.Metadata.{MetadataCauses}
 use Rattle.pm_reader.specs.declared.state.ReaderState.{ReaderState}
-use Rattle.tile_join.specs.Common.{Header, header_of, IsEmpty, IsMetadataRefused, IsUtf8, metadata_read, Options, PmtError, ReadCauses, Rose}
+use Rattle.tile_join.specs.Common.{Header, IsEmpty, IsMetadataRefused, IsUtf8, metadata_read, Options, PmtError, ReadCauses, Rose}
 use Rattle.tile_join.specs.Gather.{gathered_of}
-use Rattle.tile_join.specs.Gathered.{Gathered, gathered}
 use Rattle.tile_join.specs.Headers.{options_for}
 use Rattle.tile_join.specs.Join.{Due, last_of}
 use Rattle.tile_join.specs.declared.error.JoinError.{JoinError}

@@ -1,7 +1,5 @@
 -- Several sources in their order, the first one with number 0.
 use Rattle.std.specs.Prelude.{◌≡◌, ◌≢◌, ◌≤◌, ℕ, ◌+◌, All, List, [], ◌∷◌, map, slice_index, Option, Some, None, Result, Ok, Err}
-use Rattle.pm_format.specs.declared.error.PmtError.TheVariants as errors
-use Rattle.pm_format.specs.declared.error.ReadCause.TheVariants as causes
 use Rattle.tile_join.specs.Common.{option_map, Rose, StandsAtError}
 use Rattle.tile_join.specs.declared.error.JoinError.{JoinError}
 use Rattle.tile_join.specs.declared.error.JoinError.TheVariants.{Archive, MediumFault, OutOfMemory}

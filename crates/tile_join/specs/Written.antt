@@ -5,7 +5,6 @@ use Rattle.pm_format.specs.declared.error.ReadCause.TheVariants as causes
 use Rattle.tile_extract.specs.declared.error.ExtractError.{ExtractError}
 use Rattle.tile_extract.specs.declared.error.ExtractError.TheVariants as extract
 use Rattle.tile_join.specs.Common.{Adds, archive, ArchiveFits, ArchivePlaces, Header, ids_of, IsArchivable, IsHidden, Options, places_of, PmtError, put_all, PutsAll, range_of, Rises, Rose, Took, WriterState, Writes}
-use Rattle.tile_join.specs.Sources.{RoseAt}
 use Rattle.tile_join.specs.declared.error.JoinError.{JoinError}
 use Rattle.tile_join.specs.declared.error.JoinError.TheVariants.{Archive, IndexEntryOverflow, MediumFault, OutOfMemory}
 use Rattle.tile_join.specs.declared.piece.Piece.{Piece}

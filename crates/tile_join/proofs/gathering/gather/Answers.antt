@@ -1,4 +1,4 @@
-use Rattle.tile_join.proofs.Common.{arith, IfSome, InOrder, IsAdded, gathered_of, length, subst, sym, ◌+◌, ◌∙◌}
+use Rattle.tile_join.proofs.Common.{arith, IfSome, InOrder, IsAdded, gathered_of, length, subst, sym, ◌+◌}
 use Rattle.tile_join.proofs.GatherLemmas.{gather_causes, gather_count, gather_more, gather_read, gather_refused, gather_stands, gathered_all, gathered_none, no_more_reads}
 use Rattle.tile_join.proofs.SourceLemmas.{as_many}
 use Rattle.tile_join.proofs.gathering.gather.Goals as goal

@@ -1,6 +1,5 @@
 use Rattle.tile_join.proofs.Common.{refl, rules}
-use Rattle.tile_join.proofs.HeaderLemmas.{all_tested, none_tested, one_tested, unlike_found}
-use Rattle.pm_walk.proofs.ClippingLemmas.{no_items}
+use Rattle.tile_join.proofs.HeaderLemmas.{none_tested, one_tested, unlike_found}
 use Rattle.tile_join.specs.Headers.{IsAlike}
 use Rattle.tile_join.proofs.headers.test_alike.Goals as goal
 

@@ -1,4 +1,4 @@
-use Rattle.tile_join.proofs.Common.{all_told, ap, Err, header_of, IfSome, map, Ok, refl, ShowsNone, sym, WritesPieces}
+use Rattle.tile_join.proofs.Common.{all_told, ap, Err, IfSome, map, Ok, refl, ShowsNone, sym, WritesPieces}
 use Rattle.tile_join.proofs.DoneLemmas.{as_planned, done_answers, done_leaves, late_answers, late_leaves, late_uncompared}
 use Rattle.tile_join.proofs.SourceLemmas.{all_then}
 use Rattle.tile_join.proofs.joining.join_into.Goals as goal

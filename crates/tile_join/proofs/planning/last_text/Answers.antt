@@ -1,4 +1,4 @@
-use Rattle.tile_join.proofs.Common.{all_told, arith, Err, get_or, Gives, header_of, IfSome, length, length-map, List, map, Ok, of_read, range_read, refl, SourcesStandAt, subst, sym, ℕ, [], ◌+◌, ◌-◌, ◌≡◌, TextCauses, TextRead, TextRefused}
+use Rattle.tile_join.proofs.Common.{all_told, arith, Err, get_or, header_of, IfSome, length-map, map, Ok, of_read, SourcesStandAt, subst, sym, ℕ, [], ◌-◌, TextCauses, TextRead, TextRefused}
 use Rattle.tile_join.proofs.FindLemmas.{read_stands}
 use Rattle.tile_join.proofs.SourceLemmas.{after, as_told, mapped_at, mapped_now, one_read, reads_grow, sources_at, stand_all, tells_at, told_long, where_told}
 use Rattle.pm_reader.specs.Metadata.{MetadataAnswers, metadata_read}

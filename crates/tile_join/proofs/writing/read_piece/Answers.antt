@@ -1,6 +1,6 @@
-use Rattle.tile_join.proofs.Common.{all_told, arith, Err, get_or, Gives, header_of, IfSome, length, length-map, List, map, Ok, of_read, range_read, refl, SourcesStandAt, subst, sym, ℕ, [], ◌+◌, ◌-◌, ◌≡◌, looked, PieceCauses, PieceRead}
+use Rattle.tile_join.proofs.Common.{all_told, arith, Err, get_or, Gives, header_of, IfSome, List, map, Ok, of_read, range_read, refl, SourcesStandAt, subst, sym, ℕ, [], ◌+◌, looked, PieceCauses, PieceRead}
 use Rattle.tile_join.proofs.FindLemmas.{read_stands}
-use Rattle.tile_join.proofs.SourceLemmas.{after, as_told, mapped_at, mapped_now, one_read, reads_grow, sources_at, stand_all, tells_at, told_long, where_told}
+use Rattle.tile_join.proofs.SourceLemmas.{after, as_told, mapped_at, mapped_now, one_read, reads_grow, sources_at, stand_all, tells_at, where_told}
 use Rattle.tile_join.proofs.CountLemmas.{range_fails}
 use Rattle.tile_join.proofs.OneLemmas.{names, piece_err, piece_ok}
 use Rattle.tile_join.proofs.writing.read_piece.Goals as goal
