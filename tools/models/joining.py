@@ -1,5 +1,5 @@
-# The archive of several archives, the later ones over the earlier ones, by its definition: what it is, the refusals, and
-# how often each source and the medium are asked.
+# The archive of several archives, the later ones over the earlier ones, by its definition: what it is, the refusals,
+# and how often each source and the medium are asked.
 from models import pmtiles as pm
 from models import readers
 from models import shown
