@@ -29,6 +29,38 @@ enum Stop {
     Refused,
 }
 
+// Whether a conversion is refused for what the base has.
+fn refuses_base(error: &ConvertError) -> bool {
+    match error {
+        ConvertError::Store { place, .. } => *place == 0,
+        _ => false,
+    }
+}
+
+// Whether it ends because the base's file failed.
+fn fails_base(error: &ConvertError) -> bool {
+    match error {
+        ConvertError::StoreFault { place } => *place == 0,
+        _ => false,
+    }
+}
+
+// What an error that a conversion by memory has too comes to.
+fn stopped(
+    rt: &HostRuntime,
+    path: &str,
+    (file, medium): (&mut SetFile, &mut FileMedium),
+    error: ConvertError,
+) -> Stop {
+    if refuses_base(&error) {
+        return Stop::Refused;
+    }
+    if fails_base(&error) {
+        return faulted(rt, path, file, medium);
+    }
+    Stop::With(ConversionOutcome::from(error))
+}
+
 // What the error of a conversion from pages comes to.
 fn ended(
     rt: &HostRuntime,
@@ -38,11 +70,7 @@ fn ended(
 ) -> Stop {
     match error {
         StreamError::StoreChanged => changed(rt, path),
-        StreamError::Convert(ConvertError::Store { place: 0, .. }) => Stop::Refused,
-        StreamError::Convert(ConvertError::StoreFault { place: 0 }) => {
-            faulted(rt, path, file, medium)
-        }
-        StreamError::Convert(error) => Stop::With(ConversionOutcome::from(error)),
+        StreamError::Convert(error) => stopped(rt, path, (file, medium), error),
     }
 }
 
