@@ -58,7 +58,7 @@ def changing_bases():
     """A base that changes meanwhile: of it those tiles are sought that the patches leave."""
     changed = f"1|refused: StoreFault {2 ** 64 - 1}"
     tiles = {(0, 0, 0): b"0", (1, 0, 0): b"11", (1, 0, 1): b"1", (1, 1, 1): b"0", (2, 0, 0): b"2"}
-    for layout in ("flat", "flat-with-hash", "cache"):
+    for layout in ("flat", "flat-with-hash"):
         base = store("base", layout, tiles)
         first = store("patch", "flat", {(1, 0, 0): b"put", (1, 0, 1): None})
         second = store("patch", "flat", {(2, 0, 0): b"put", (3, 0, 0): b"0"})
