@@ -1,4 +1,5 @@
-# Cases of tools/check_bin: archives that bin/fatyngu join makes of several. Which tiles each has is looked up by Python.
+# Cases of tools/check_bin: archives that bin/fatyngu join makes of several. Which tiles each
+# has is looked up by Python.
 # shellcheck disable=SC2034,SC2154
 
 # joins TILES IN ..: what join makes of archives has this many tiles, is sound, and has those of the last that has each
