@@ -37,6 +37,7 @@ pub mod ElementLemmas
 pub mod FactLemmas
 pub mod BegunLemmas
 pub mod HollowLemmas
+pub mod PartLemmas
 pub mod PatchLemmas
 pub mod PatchedSetLemmas
 pub mod ResolveLemmas

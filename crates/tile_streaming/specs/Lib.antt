@@ -13,6 +13,7 @@ pub mod RowMarks
 pub mod RowTests
 pub mod Seen
 pub mod Overlaid
+pub mod Part
 pub mod PatchedSet
 pub mod Patching
 pub mod Stored
