@@ -20,7 +20,7 @@ module _ (f : Place → Bool) where
   alike : (q x : Place) → place_cmp q x ≡ Equal → f x ≡ f q
   alike q x tie = ap f (sym (places_antisymmetric q x tie))
 
-  get_kept : (tiles : TileSet) (p : Place) → get (retain_keys tiles f) p ≡ cond (f p) (get tiles p) None
+  pub get_kept : (tiles : TileSet) (p : Place) → get (retain_keys tiles f) p ≡ cond (f p) (get tiles p) None
   get_kept tiles p = get-retain_keys tiles f p (alike p)
 
   -- and their marks
@@ -33,7 +33,7 @@ module _ (f : Place → Bool) where
           ∙ ap (map mark_of) (sym (entries_where places_total places_antisymmetric (retain_keys tiles f) tiles f alike (get_kept tiles)))
 
 module _ (intervals : List (ℕ × ℕ)) where
-  abbrev inside : Place → Bool
+  abbrev pub inside : Place → Bool
   inside p = in_intervals (address p) intervals
 
   abbrev outside : Place → Bool

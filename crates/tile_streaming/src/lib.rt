@@ -9,6 +9,7 @@ mod described;
 mod error;
 mod finding;
 mod hashing;
+pub mod laws;
 mod mark;
 mod mark_facts;
 mod marking;
