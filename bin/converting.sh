@@ -46,13 +46,14 @@ trap 'exit 131' QUIT
 trap 'exit 143' TERM
 
 # bytes_to_read FILE.. OUT: how many bytes the program reads of sets. A set without patches is read three times, page by
-# page, and once more for the hash. With patches a file above the 8 MiB that the program keeps is read five times while
+# page, a part of it at the third time, and once more for the hash. With patches a file above the 8 MiB that the program keeps is read five times while
 # it is opened, and once for its rows.
 bytes_to_read() {
     bytes=0
     [ $# -gt 2 ] || {
         size=$(stat -Lc %s "$1" 2>/dev/null) || size=0
-        echo $(((${hash:-$verify} + 3) * size))
+        [ -z "$part" ] && times=3 || times=2
+        echo $(((${hash:-$verify} + times) * size))
         return 0
     }
     while [ $# -gt 1 ]; do
@@ -83,7 +84,8 @@ follow() {
 # convert FILE..: runs the program, and sets `ended` to its status
 convert() {
     expected=$(bytes_to_read "$@")
-    set -- ${force:+--force} ${verify:+--verify} ${hash:+--hash} ${overwrite:+--overwrite} ${strict:+--strict} -- "$@"
+    set -- ${force:+--force} ${verify:+--verify} ${hash:+--hash} ${overwrite:+--overwrite} ${strict:+--strict} \
+        ${part:+"$part" "$first" "$second"} ${third:+"$third"} -- "$@"
     # where it is installed the program stands beside this script
     if [ -x "$here/mbtiles_to_pmtiles_program" ]; then
         "$here/mbtiles_to_pmtiles_program" "$@" &
