@@ -1,4 +1,4 @@
-use Rattle.tile_streaming.proofs.Common.{ap, ConvertOptions, Err, IsHeld, IsHeldOf, list_all, map, state_of, stored_in, PartLeaves, StreamCauses, StreamError, subst, sym, tested_due, ◌&&◌, ◌∙◌, ◌∷◌}
+use Rattle.tile_streaming.proofs.Common.{ap, ConvertOptions, Err, IsHeld, IsHeldOf, list_all, map, state_of, stored_in, PartLeaves, StreamCauses, subst, sym, tested_due, ◌&&◌, ◌∙◌}
 use Rattle.mb_store.proofs.FaultLemmas.{still_anyway, still_then}
 use Rattle.tile_bridge.specs.Outcome.{all_patched, at_place}
 use Rattle.tile_bridge.specs.Stores.{Refuses}
