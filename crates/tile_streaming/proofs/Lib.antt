@@ -40,3 +40,4 @@ pub mod HollowLemmas
 pub mod PatchLemmas
 pub mod PatchedSetLemmas
 pub mod ResolveLemmas
+pub mod StandsLemmas

@@ -1,9 +1,10 @@
 // The conversion of a set of which marks are held, and one content at a time.
-ghost use Rattle.std.specs.Prelude.{◌≡◌, ◌+◌, ◌∷◌, ◌||◌, [], ℕ, false, is_some, IfOk, IfSome, IsErrOf, OnOk, Option, Result, unwrap_or};
+ghost use Rattle.std.specs.Prelude.{◌≡◌, ◌+◌, ◌∷◌, ◌||◌, [], ℕ, false, is_some, IfOk, IfSome, IsErrOf, List, Option, Result, unwrap_or};
 ghost use Rattle.tile_streaming.specs.Common.{answered, ConvertError, GrewFrom, IsEmpty, IsPlain, KeepsMedium, ReadsOnly, Rose, RoseAt, State};
 ghost use Rattle.tile_streaming.specs.Hashing.{IsHashOf, IsRight};
 ghost use Rattle.tile_streaming.specs.PatchedSet.{stored_in};
 ghost use Rattle.tile_streaming.specs.Sizing.{overflow_of};
+ghost use Rattle.tile_streaming.specs.Stands.{MediumStands, StoresStand};
 ghost use Rattle.tile_streaming.specs.Streaming.{IsHeld, IsHeldOf, IsHeldWith, StreamCauses, StreamLeaves, tested_due};
 
 use crate::error::of_reader;
@@ -60,8 +61,9 @@ fn convert_held<S: TileStore, M: Medium>(
     ensures base_kept { ReadsOnly S.told S.tells S.faults S.steady base.old base.new }
     ensures medium_kept { KeepsMedium M.told M.versions M.reads M.faults M.steady
         medium.old medium.new }
-    ensures base_still { OnOk result (S.faults base.new ≡ S.faults base.old) }
-    ensures medium_still { OnOk result (M.faults medium.new ≡ M.faults medium.old) }
+    ensures base_still { (patches : List ℕ) → StoresStand (S.faults base.old ∷ patches)
+        (S.faults base.new ∷ patches) result }
+    ensures medium_still { MediumStands (M.faults medium.old) (M.faults medium.new) result }
 {
     writer.fits();
     let places = write_marked(alloc, base, set, writer, medium)?;
@@ -122,8 +124,9 @@ fn convert_hashed<S: TileStore, O: StreamOptions, M: Medium>(
     ensures base_kept { ReadsOnly S.told S.tells S.faults S.steady base.old base.new }
     ensures medium_kept { KeepsMedium M.told M.versions M.reads M.faults M.steady
         medium.old medium.new }
-    ensures base_still { OnOk result (S.faults base.new ≡ S.faults base.old) }
-    ensures medium_still { OnOk result (M.faults medium.new ≡ M.faults medium.old) }
+    ensures base_still { (patches : List ℕ) → StoresStand (S.faults base.old ∷ patches)
+        (S.faults base.new ∷ patches) result }
+    ensures medium_still { MediumStands (M.faults medium.old) (M.faults medium.new) result }
 {
     if mark_overflows(&set.marked.marks) {
         return Err(StreamError::Convert(ConvertError::IndexEntryOverflow));
@@ -168,8 +171,9 @@ pub(crate) fn convert_marked<S: TileStore, O: StreamOptions, M: Medium>(
     ensures base_kept { ReadsOnly S.told S.tells S.faults S.steady base.old base.new }
     ensures medium_kept { KeepsMedium M.told M.versions M.reads M.faults M.steady
         medium.old medium.new }
-    ensures base_still { OnOk result (S.faults base.new ≡ S.faults base.old) }
-    ensures medium_still { OnOk result (M.faults medium.new ≡ M.faults medium.old) }
+    ensures base_still { (patches : List ℕ) → StoresStand (S.faults base.old ∷ patches)
+        (S.faults base.new ∷ patches) result }
+    ensures medium_still { MediumStands (M.faults medium.old) (M.faults medium.new) result }
 {
     let aggregate = hash_for(alloc, base, set, options.asked().verify, hash)?;
     convert_hashed(alloc, base, set, coords, options, aggregate, medium)

@@ -5,6 +5,7 @@ ghost use Rattle.tile_streaming.specs.Common.{add_to, AddFits, CanBeWritten, has
 ghost use Rattle.tile_streaming.specs.Adding.{AreAdded, HaveLengths, IsAddedFor, IsTaken, adds_of};
 ghost use Rattle.tile_streaming.specs.PatchedSet.{bytes_in, stored_in};
 ghost use Rattle.tile_streaming.specs.Sizing.{overflow_of};
+ghost use Rattle.tile_streaming.specs.Stands.{BaseStands, MediumStands};
 ghost use Rattle.tile_streaming.specs.Stored.{IsStored};
 ghost use Rattle.tile_streaming.specs.Written.{AddsCauses, IsChanged, StepCauses, WrittenLeaves};
 
@@ -38,7 +39,7 @@ fn add_row<M: Medium>(
         → AddFits o adds mark.now.id taken)
         → AddsCauses (M.faults medium.old) (M.faults medium.new) result) }
     ensures kept { KeepsMedium M.told M.versions M.reads M.faults M.steady medium.old medium.new }
-    ensures still { OnOk result (M.faults medium.new ≡ M.faults medium.old) }
+    ensures still { MediumStands (M.faults medium.old) (M.faults medium.new) result }
 {
     let null = Cell::Null;
     let bytes = set.bytes_in(mark.id, row, &null);
@@ -74,8 +75,8 @@ fn add_mark<S: TileStore, M: Medium>(
     ensures store_kept { ReadsOnly S.told S.tells S.faults S.steady store.old store.new }
     ensures medium_kept { KeepsMedium M.told M.versions M.reads M.faults M.steady
         medium.old medium.new }
-    ensures store_still { OnOk result (S.faults store.new ≡ S.faults store.old) }
-    ensures medium_still { OnOk result (M.faults medium.new ≡ M.faults medium.old) }
+    ensures store_still { BaseStands (S.faults store.old) (S.faults store.new) result }
+    ensures medium_still { MediumStands (M.faults medium.old) (M.faults medium.new) result }
 {
     if mark.length == 0 {
         return Ok(());
@@ -109,8 +110,8 @@ fn add_marks<S: TileStore, M: Medium>(
     ensures store_kept { ReadsOnly S.told S.tells S.faults S.steady store.old store.new }
     ensures medium_kept { KeepsMedium M.told M.versions M.reads M.faults M.steady
         medium.old medium.new }
-    ensures store_still { OnOk result (S.faults store.new ≡ S.faults store.old) }
-    ensures medium_still { OnOk result (M.faults medium.new ≡ M.faults medium.old) }
+    ensures store_still { BaseStands (S.faults store.old) (S.faults store.new) result }
+    ensures medium_still { MediumStands (M.faults medium.old) (M.faults medium.new) result }
 {
     for mark in marks {
         add_mark(alloc, store, set, mark, state, medium)?;
@@ -146,8 +147,8 @@ pub(crate) fn write_marked<S: TileStore, M: Medium>(
     ensures store_kept { ReadsOnly S.told S.tells S.faults S.steady store.old store.new }
     ensures medium_kept { KeepsMedium M.told M.versions M.reads M.faults M.steady
         medium.old medium.new }
-    ensures store_still { OnOk result (S.faults store.new ≡ S.faults store.old) }
-    ensures medium_still { OnOk result (M.faults medium.new ≡ M.faults medium.old) }
+    ensures store_still { BaseStands (S.faults store.old) (S.faults store.new) result }
+    ensures medium_still { MediumStands (M.faults medium.old) (M.faults medium.new) result }
 {
     let mut state = match options.start(alloc, medium) {
         Ok(state) => state,
