@@ -14,6 +14,7 @@ pub mod RowMarks
 pub mod RowTests
 pub mod Seen
 pub mod Overlaid
+pub mod Part
 pub mod PatchedSet
 pub mod Patching
 pub mod Stored

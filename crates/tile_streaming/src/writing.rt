@@ -119,7 +119,7 @@ fn add_marks<S: TileStore, M: Medium>(
     Ok(())
 }
 
-/// Writes the archive of marks with options to an empty medium. The options label directories `None`.
+/// Writes the archive of marks of a set with options to an empty medium. The options label directories `None`.
 ///
 /// A fault comes only where the count of faults of the store or of the medium rose, and `StoreChanged` only over a
 /// store that tells nothing; no other refusal comes but want of memory. After each of them no part of an archive is
@@ -128,19 +128,20 @@ pub(crate) fn write_marked<S: TileStore, M: Medium>(
     alloc: Global,
     store: &mut S,
     set: &PatchedSet,
+    marks: &[Mark],
     options: &PmTilesWriter,
     medium: &mut M,
 ) -> Result<ArchivePlaces, StreamError>
     requires empty { IsEmpty (M.told medium.old) }
     requires plain { IsPlain options.now }
     requires metadata { length options.now.metadata < 2 ^ 63 }
-    requires size { overflow_of set.now.marked.marks.items ≡ false }
-    requires can { (contents : List (List ℕ)) → HaveLengths set.now.marked.marks.items contents
-        → CanBeWritten options.now (adds_of set.now.marked.marks.items contents) }
+    requires size { overflow_of marks.now ≡ false }
+    requires can { (contents : List (List ℕ)) → HaveLengths marks.now contents
+        → CanBeWritten options.now (adds_of marks.now contents) }
     requires stored { S.tells store.old ≡ true
-        → All (IsStored (stored_in set.now (S.told store.old))) set.now.marked.marks.items }
+        → All (IsStored (stored_in set.now (S.told store.old))) marks.now }
     ensures leaves { WrittenLeaves options.now (S.tells store.old)
-        (stored_in set.now (S.told store.old)) set.now.marked.marks.items
+        (stored_in set.now (S.told store.old)) marks.now
         (M.told medium.old) (M.told medium.new) result }
     ensures causes { StepCauses (S.tells store.old ≡ false) (S.faults store.old)
         (S.faults store.new) (M.faults medium.old) (M.faults medium.new) result }
@@ -154,8 +155,8 @@ pub(crate) fn write_marked<S: TileStore, M: Medium>(
         Ok(state) => state,
         Err(error) => return Err(of_writer(error)),
     };
-    state.reserve(set.marked.marks.len())?;
-    add_marks(alloc, store, set, &set.marked.marks, &mut state, medium)?;
+    state.reserve(marks.len())?;
+    add_marks(alloc, store, set, marks, &mut state, medium)?;
     match state.finalize(medium) {
         Ok(places) => Ok(places),
         Err(error) => Err(of_writer(error)),

@@ -1,4 +1,4 @@
-use Rattle.tile_streaming.proofs.Common.{ap, ConvertOptions, Err, IfSome, inl, List, Option, refl, Result, Rose, RoseAt, StreamCauses, StreamError, StreamLeaves, StreamReport, subst, ℕ, [], ◌∙◌, ◌∷◌, ◌||◌, ◌≡◌, IsHeld, IsHeldOf, stored_in, tested_due}
+use Rattle.tile_streaming.proofs.Common.{ap, ConvertOptions, Err, IfSome, inl, List, Option, refl, Result, Rose, RoseAt, PartLeaves, StreamCauses, StreamError, StreamReport, subst, ℕ, [], ◌∙◌, ◌∷◌, ◌||◌, ◌≡◌, IsHeld, IsHeldOf, stored_in, tested_due}
 use Rattle.tile_bridge.specs.declared.error.ConvertError.TheVariants.{MediumFault, StoreFault}
 use Rattle.tile_streaming.proofs.DueLemmas.{causes_moved, leaves_moved, rose_more}
 use Rattle.tile_streaming.proofs.StepLemmas.{same_error}
@@ -49,7 +49,7 @@ pub returns-in_err-aggregate-clause-leaves : goal.returns-in_err-aggregate-claus
 returns-in_err-aggregate-clause-leaves g c = λ begun from.
     let asks = g.O.ArchiveOptions.asks c.args.options.now in
     let told = g.M.Backend.told c.args.medium.now in
-    same_error c.in_err-aggregate.field-0.0 _ (λ (r : Result StreamReport StreamError). StreamLeaves (g.O.ArchiveOptions.gives c.args.options.now) (tested_due asks.verify begun) (g.S.TileStore.tells c.args.base.now) c.args.coords.now r told told)
+    same_error c.in_err-aggregate.field-0.0 _ (λ (r : Result StreamReport StreamError). PartLeaves c.args.part.now (g.O.ArchiveOptions.gives c.args.options.now) (tested_due asks.verify begun) (g.S.TileStore.tells c.args.base.now) c.args.coords.now r told told)
     (inl (record { refused = tt; medium = refl })) c.from_residual.ensures.1
 
 pub returns-in_err-aggregate-clause-store_fault : goal.returns-in_err-aggregate-clause-store_fault
@@ -91,7 +91,7 @@ returns-clause-leaves g c = λ begun from.
     let now = stored_in set (g.S.TileStore.told c.hash_for.new.store) in
     let asks = g.O.ArchiveOptions.asks c.args.options.now in
     let moved = store_moved (λ b x. IsHeldOf begun b x set.marked) tells tells_now t now c.hash_for.ensures.kept.tells (ap (stored_in set) c.hash_for.ensures.kept.told) from in
-    leaves_moved (tested_due asks.verify begun) tells tells_now c.hash_for.ensures.kept.tells
+    leaves_moved (tested_due asks.verify begun) tells tells_now c.hash_for.ensures.kept.tells c.args.part.now
     (g.O.ArchiveOptions.gives c.args.options.now) c.args.coords.now c.convert_hashed.result (g.M.Backend.told c.args.medium.now) (g.M.Backend.told c.convert_hashed.new.medium) (c.convert_hashed.ensures.leaves begun moved)
 
 pub returns-clause-store_fault : goal.returns-clause-store_fault

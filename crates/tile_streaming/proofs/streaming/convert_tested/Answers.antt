@@ -1,4 +1,4 @@
-use Rattle.tile_streaming.proofs.Common.{ap, ConvertOptions, Err, IsHeld, IsHeldOf, list_all, map, refl, state_of, stored_in, StreamCauses, StreamError, StreamLeaves, StreamReport, subst, sym, tested_due, ◌&&◌, ◌∙◌, ◌∷◌}
+use Rattle.tile_streaming.proofs.Common.{ap, ConvertOptions, Err, IsHeld, IsHeldOf, list_all, map, refl, state_of, stored_in, PartLeaves, StreamCauses, StreamReport, subst, sym, tested_due, ◌&&◌, ◌∙◌, ◌∷◌}
 use Rattle.tile_bridge.specs.Outcome.{all_patched, at_place}
 use Rattle.tile_bridge.specs.Stores.{Refuses}
 use Rattle.tile_streaming.proofs.DueLemmas.{causes_moved, due_tested, leaves_moved, no_medium, set_refused}
@@ -49,8 +49,8 @@ returns-in-Ok-clause-leaves g c =
     let moved = store_moved (λ b x. IsHeldOf (begun c.asked.result.now) b x set.marked) tells tells_now (stored_in set told) (stored_in set now) c.resolve.ensures.base_kept.tells (ap (stored_in set) c.resolve.ensures.base_kept.told) c.in-Ok.ensures.held in
     let held = subst (λ (o : ConvertOptions). IsHeldOf (begun o) tells_now (stored_in set now) set.marked) c.asked.ensures moved in
     let due = due_tested (tells && list_all g.P.TileStore.tells patches) (at_place 0 (state_of told)) (λ s. all_patched asks.force 1 s (map g.P.TileStore.told patches)) asks.verify in
-    subst (λ d. StreamLeaves gives d tells c.args.coords.now c.convert_marked.result old new) (sym due)
-    (leaves_moved (tested_due asks.verify (begun asks)) tells tells_now c.resolve.ensures.base_kept.tells gives c.args.coords.now c.convert_marked.result old new (c.convert_marked.ensures.leaves (begun asks) held))
+    subst (λ d. PartLeaves c.args.part.now gives d tells c.args.coords.now c.convert_marked.result old new) (sym due)
+    (leaves_moved (tested_due asks.verify (begun asks)) tells tells_now c.resolve.ensures.base_kept.tells c.args.part.now gives c.args.coords.now c.convert_marked.result old new (c.convert_marked.ensures.leaves (begun asks) held))
 
 pub returns-in-Ok-clause-store_fault : goal.returns-in-Ok-clause-store_fault
 returns-in-Ok-clause-store_fault g c = λ place h.
