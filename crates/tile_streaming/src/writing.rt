@@ -5,6 +5,7 @@ ghost use Rattle.tile_streaming.specs.Common.{add_to, AddFits, CanBeWritten, has
 ghost use Rattle.tile_streaming.specs.Adding.{AreAdded, HaveLengths, IsAddedFor, IsTaken, adds_of};
 ghost use Rattle.tile_streaming.specs.PatchedSet.{bytes_in, stored_in};
 ghost use Rattle.tile_streaming.specs.Sizing.{overflow_of};
+ghost use Rattle.tile_streaming.specs.Stands.{BaseStands, MediumStands};
 ghost use Rattle.tile_streaming.specs.Stored.{IsStored};
 ghost use Rattle.tile_streaming.specs.Written.{AddsCauses, IsChanged, StepCauses, WrittenLeaves};
 
@@ -38,7 +39,7 @@ fn add_row<M: Medium>(
         → AddFits o adds mark.now.id taken)
         → AddsCauses (M.faults medium.old) (M.faults medium.new) result) }
     ensures kept { KeepsMedium M.told M.versions M.reads M.faults M.steady medium.old medium.new }
-    ensures still { OnOk result (M.faults medium.new ≡ M.faults medium.old) }
+    ensures still { MediumStands (M.faults medium.old) (M.faults medium.new) result }
 {
     let null = Cell::Null;
     let bytes = set.bytes_in(mark.id, row, &null);
@@ -74,8 +75,8 @@ fn add_mark<S: TileStore, M: Medium>(
     ensures store_kept { ReadsOnly S.told S.tells S.faults S.steady store.old store.new }
     ensures medium_kept { KeepsMedium M.told M.versions M.reads M.faults M.steady
         medium.old medium.new }
-    ensures store_still { OnOk result (S.faults store.new ≡ S.faults store.old) }
-    ensures medium_still { OnOk result (M.faults medium.new ≡ M.faults medium.old) }
+    ensures store_still { BaseStands (S.faults store.old) (S.faults store.new) result }
+    ensures medium_still { MediumStands (M.faults medium.old) (M.faults medium.new) result }
 {
     if mark.length == 0 {
         return Ok(());
@@ -109,8 +110,8 @@ fn add_marks<S: TileStore, M: Medium>(
     ensures store_kept { ReadsOnly S.told S.tells S.faults S.steady store.old store.new }
     ensures medium_kept { KeepsMedium M.told M.versions M.reads M.faults M.steady
         medium.old medium.new }
-    ensures store_still { OnOk result (S.faults store.new ≡ S.faults store.old) }
-    ensures medium_still { OnOk result (M.faults medium.new ≡ M.faults medium.old) }
+    ensures store_still { BaseStands (S.faults store.old) (S.faults store.new) result }
+    ensures medium_still { MediumStands (M.faults medium.old) (M.faults medium.new) result }
 {
     for mark in marks {
         add_mark(alloc, store, set, mark, state, medium)?;
@@ -118,7 +119,7 @@ fn add_marks<S: TileStore, M: Medium>(
     Ok(())
 }
 
-/// Writes the archive of marks with options to an empty medium. The options label directories `None`.
+/// Writes the archive of marks of a set with options to an empty medium. The options label directories `None`.
 ///
 /// A fault comes only where the count of faults of the store or of the medium rose, and `StoreChanged` only over a
 /// store that tells nothing; no other refusal comes but want of memory. After each of them no part of an archive is
@@ -127,34 +128,35 @@ pub(crate) fn write_marked<S: TileStore, M: Medium>(
     alloc: Global,
     store: &mut S,
     set: &PatchedSet,
+    marks: &[Mark],
     options: &PmTilesWriter,
     medium: &mut M,
 ) -> Result<ArchivePlaces, StreamError>
     requires empty { IsEmpty (M.told medium.old) }
     requires plain { IsPlain options.now }
     requires metadata { length options.now.metadata < 2 ^ 63 }
-    requires size { overflow_of set.now.marked.marks.items ≡ false }
-    requires can { (contents : List (List ℕ)) → HaveLengths set.now.marked.marks.items contents
-        → CanBeWritten options.now (adds_of set.now.marked.marks.items contents) }
+    requires size { overflow_of marks.now ≡ false }
+    requires can { (contents : List (List ℕ)) → HaveLengths marks.now contents
+        → CanBeWritten options.now (adds_of marks.now contents) }
     requires stored { S.tells store.old ≡ true
-        → All (IsStored (stored_in set.now (S.told store.old))) set.now.marked.marks.items }
+        → All (IsStored (stored_in set.now (S.told store.old))) marks.now }
     ensures leaves { WrittenLeaves options.now (S.tells store.old)
-        (stored_in set.now (S.told store.old)) set.now.marked.marks.items
+        (stored_in set.now (S.told store.old)) marks.now
         (M.told medium.old) (M.told medium.new) result }
     ensures causes { StepCauses (S.tells store.old ≡ false) (S.faults store.old)
         (S.faults store.new) (M.faults medium.old) (M.faults medium.new) result }
     ensures store_kept { ReadsOnly S.told S.tells S.faults S.steady store.old store.new }
     ensures medium_kept { KeepsMedium M.told M.versions M.reads M.faults M.steady
         medium.old medium.new }
-    ensures store_still { OnOk result (S.faults store.new ≡ S.faults store.old) }
-    ensures medium_still { OnOk result (M.faults medium.new ≡ M.faults medium.old) }
+    ensures store_still { BaseStands (S.faults store.old) (S.faults store.new) result }
+    ensures medium_still { MediumStands (M.faults medium.old) (M.faults medium.new) result }
 {
     let mut state = match options.start(alloc, medium) {
         Ok(state) => state,
         Err(error) => return Err(of_writer(error)),
     };
-    state.reserve(set.marked.marks.len())?;
-    add_marks(alloc, store, set, &set.marked.marks, &mut state, medium)?;
+    state.reserve(marks.len())?;
+    add_marks(alloc, store, set, marks, &mut state, medium)?;
     match state.finalize(medium) {
         Ok(places) => Ok(places),
         Err(error) => Err(of_writer(error)),
