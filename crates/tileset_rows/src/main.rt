@@ -13,6 +13,7 @@ mod in_memory;
 mod many;
 mod on_file;
 mod other;
+mod parts;
 mod running;
 mod said;
 mod short_medium;
@@ -49,7 +50,10 @@ impl Rows for Cases {
             "streamed" => said::answer(alloc, out, &mut fields, Options::Streamed),
             "hashed" => said::answer(alloc, out, &mut fields, Options::Hashed),
             "streamed-said" => said::answer(alloc, out, &mut fields, Options::StreamedSet),
+            "part" => parts::answer(alloc, out, &mut fields),
+            "parts-joined" => parts::joined(alloc, out, &mut fields),
             "changing" => changing::answer(alloc, out, &mut fields),
+            "changing-part" => changing::of_part(alloc, out, &mut fields),
             "hindered-said" => hindered::answer(alloc, out, &mut fields, Options::Set),
             "hindered-streamed" => hindered::answer(alloc, out, &mut fields, Options::Streamed),
             "hindered-hashed" => hindered::answer(alloc, out, &mut fields, Options::Hashed),

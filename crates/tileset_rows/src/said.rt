@@ -57,7 +57,8 @@ fn said_done(alloc: Global, out: &mut String, report: ConvertReport) -> Option<(
     )
 }
 
-fn said_end(
+/// Appends how a conversion ends.
+pub fn said_end(
     alloc: Global,
     out: &mut String,
     answer: Result<ConvertReport, ConvertError>,
@@ -68,8 +69,8 @@ fn said_end(
     }
 }
 
-// Appends how many bytes a medium has, and these or their digest.
-fn say_medium(alloc: Global, out: &mut String, medium: &MemMedium) -> Option<()> {
+/// Appends how many bytes a medium has, and these or their digest.
+pub fn say_medium(alloc: Global, out: &mut String, medium: &MemMedium) -> Option<()> {
     let length = medium.as_bytes().len();
     write!(out, "|{length}|").ok()?;
     say_bytes(alloc, out, medium.as_bytes(), 64)
