@@ -10,6 +10,7 @@ must print what the committed stdout has, and its calls for memory are counted. 
 - one line is answered `OutOfMemory`, or ends in `refused` where the program's own words or printing found no memory (`refused`), and all lines behind it are answered as they are
   had that line not been there, had it been done, or, where it makes the tables of a new set, had it made these alone; or
 - that line writes an archive: where it isn't finished, whatever opens it behind that line is refused, and nothing is said of its bytes; where an add alone was refused, nothing is said of what is read of the rest; or
+- that line converts twice over the same stores: one conversion is refused and shows no archive, the other one is done, and the rows of all stores stand; or
 - that line is one of the program's own, by which it makes or fills an object before the calls that are tried (`unmade`): nothing is said of the lines behind it; or
 - the program stops because it can't read or print a line, with status 1 (`stopped`), and what it printed until then is a front of that.
 
@@ -21,6 +22,7 @@ The programs are those of `rt try`, with checks of all accesses to memory, kept 
 the repository. The table of docs/SAFETY.md is what this prints.
 """
 import os
+import re
 import shutil
 import signal
 import subprocess
@@ -58,6 +60,10 @@ LINES = {
     'written_and_read': ('archive_rows', [('read none part header', 13, 20)],
                          'PmTilesWriter::create PmTilesStreamWriter::add_raw_tile PmTilesStreamWriter::finalize PmTilesReader::try_from_source PmTilesReader::get_tile PmTilesReader::get_metadata '
                          'PmTilesReader::parse_tilejson ReaderState::parse_tilejson'),
+    'streamed_from_each_layout': ('tileset_rows', [('twice|streamed|option verify', 0, 6)], 'convert_streamed read_marks'),
+    'streamed_as_each_says': ('tileset_rows', [('twice|streamed-said|option verify', 0, 6)], 'convert_streamed read_marks StreamOptions::made_for_marked'),
+    'patched_from_each_layout': ('tileset_rows', [('twice|hashed|base flat', 0, 4)], 'convert_patched read_marks'),
+    'patched_as_each_says': ('tileset_rows', [('twice|streamed-said|base flat', 0, 4)], 'convert_patched read_marks StreamOptions::made_for_marked'),
     'served': ('archive_rows', [('serve lines 4 100', 1, 2)], 'TileServer::open TileServer::answer'),
     'extracted': ('archive_rows', [('extract from 0 run 0', 1, 4)], 'run_extract extract'),
 }
@@ -150,6 +156,15 @@ def is_own(line):
     return words[0] in (b'hold', b'fresh', b'push') or words[1:2] in ([b'new'], [b'none'], [b'push'], [b'add'], [b'fill'], [b'hold'], [b'fail'], [b'with'])
 
 
+def left(wanted, from_on):
+    """What a line that converts twice over the same stores may answer where memory is refused: one conversion is refused, and its medium shows no archive; the other is done, and what all stores hold stands.
+    Where all calls from one on are refused, the second conversion may be refused too."""
+    words = wanted.decode().split('|')
+    assert words[:4] == words[4:8]
+    end, rows, refused = re.escape('|'.join(words[:4]) + '|'), re.escape('|'.join(words[8:])), r'1\|refused: OutOfMemory\|(none|0)\|'
+    return f'({refused}{end}|{end}{refused}{f"|{refused}{refused}" if from_on else ""}){rows}|refused'
+
+
 def is_half(asked, said):
     """Whether lines behind a refused one that writes an archive are as they may be: what opens it is refused, and of
     its bytes, which the writer leaves as its contract says, nothing is said."""
@@ -201,6 +216,8 @@ class Lines:
             return 'answer' if status == 0 else 'stopped'
         if not is_refusal(said[at]):
             return f'wrong: line {at + 1}: {said[at][:200]!r}'
+        if self.asked[at].startswith(b'twice|') and not re.fullmatch(left(self.wanted[at], from_on), said[at].decode()):
+            return f'wrong: line {at + 1} leaves: {said[at][:200]!r}'
         if is_own(self.asked[at]):
             return 'unmade' if status == 0 else 'stopped'
         rest = said[at + 1:]

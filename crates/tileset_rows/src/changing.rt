@@ -1,13 +1,11 @@
 // Conversions that hold no contents, over a store that changes between the readings.
-use crate::answers::said_outcome;
+use crate::answers::{said_outcome, say_label};
 use crate::fields::{Fields, bytes_of};
-use crate::stores::{options_of, script_of, whole};
+use crate::stores::{Options, converted, options_of, script_of};
 use base_values::TextVal;
 use mb_store::{Changes, MemStore, Row, RowKey, StoreError, TableDesc, TableName, TileStore};
 use pm_format::MemMedium;
 use std::alloc::Global;
-use std::fmt::Write;
-use tile_streaming::{convert_patched, convert_streamed};
 use tileset::Outcome;
 use tileset_script::ParsedScript;
 
@@ -124,29 +122,20 @@ fn say_changed(
         other,
     };
     let mut medium = MemMedium::new(alloc);
-    let options = options_of(options);
-    let coords = queries.as_slice();
-    let answer = if patches.is_empty() {
-        convert_streamed(alloc, &mut store, coords, &options, false, &mut medium)
-    } else {
-        convert_patched(
-            alloc,
-            &mut store,
-            &mut patches,
-            coords,
-            &options,
-            false,
-            &mut medium,
-        )
-    };
-    match whole(alloc, answer) {
+    let answer = converted(
+        alloc,
+        &mut store,
+        &mut patches,
+        queries.as_slice(),
+        &options_of(options),
+        Options::Streamed,
+        &mut medium,
+    );
+    match answer {
         Ok(_) => said_outcome(alloc, out, Outcome::Done)?,
         Err(error) => said_outcome(alloc, out, Outcome::Refused(error))?,
     }
-    match medium.as_bytes().get(97) {
-        Some(label) => write!(out, "|{label}").ok(),
-        None => write!(out, "|none").ok(),
-    }
+    say_label(out, medium.as_bytes())
 }
 
 /// A case of a script, the number of a row that is sought, and the key of the row that is found in its place, if any:
