@@ -43,7 +43,7 @@ def twice(name, script):
     state = converted(given.stores, given.options["force"], given.options["verify"])
     assert not isinstance(state, bytes)
     whole = archive(options_said(state) if name == "streamed-said" else given.options, adds_of(state.tiles))[0]
-    end = f"0||{len(whole)}|{shown(whole, 64)}|"
+    end = f"0||1|{len(whole)}|{shown(whole, 64)}|"
     rows = "|".join(rows_of(words_of(it), escaped) for it in given.stores)
     case(["twice", name, escaped(script.encode())], end + end + rows)
 

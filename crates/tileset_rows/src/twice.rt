@@ -21,7 +21,16 @@ fn options_named(name: &str) -> Option<Options> {
     }
 }
 
-// Appends how a conversion ends, and the archive on its new medium; where it is refused, the label of directories.
+// Appends what a new medium has: the label of directories, and the archive where it is shown.
+fn say_shown(alloc: Global, out: &mut String, medium: &MemMedium) -> Option<()> {
+    say_label(out, medium.as_bytes())?;
+    match medium.as_bytes().get(97) {
+        Some(0) | None => Some(()),
+        Some(_) => say_medium(alloc, out, medium),
+    }
+}
+
+// Appends how a conversion ends, and what its new medium has.
 fn say_end(
     alloc: Global,
     out: &mut String,
@@ -32,15 +41,10 @@ fn say_end(
 ) -> Option<()> {
     let mut medium = MemMedium::new(alloc);
     match converted(alloc, base, patches, coords, given, options, &mut medium) {
-        Ok(_) => {
-            said_outcome(alloc, out, Outcome::Done)?;
-            say_medium(alloc, out, &medium)
-        }
-        Err(error) => {
-            said_outcome(alloc, out, Outcome::Refused(error))?;
-            say_label(out, medium.as_bytes())
-        }
+        Ok(_) => said_outcome(alloc, out, Outcome::Done)?,
+        Err(error) => said_outcome(alloc, out, Outcome::Refused(error))?,
     }
+    say_shown(alloc, out, &medium)
 }
 
 /// A case of a conversion's name and a script: how it ends, and how it ends once more; then what the tables of all
