@@ -42,3 +42,4 @@ pub mod PartLemmas
 pub mod PatchLemmas
 pub mod PatchedSetLemmas
 pub mod ResolveLemmas
+pub mod StandsLemmas

@@ -7,6 +7,7 @@ pub mod Marks
 pub mod MarkFacts
 pub mod Sizing
 pub mod Spots
+pub mod Stands
 pub mod Streaming
 pub mod Written
 pub mod RowMarks

@@ -1,10 +1,11 @@
 // The conversion of a set of which marks are held, and one content at a time.
-ghost use Rattle.std.specs.Prelude.{◌≡◌, ◌+◌, ◌∷◌, ◌||◌, [], ℕ, false, is_some, IfOk, IfSome, IsErrOf, MatchOption, OnOk, Option, Result, unwrap_or};
+ghost use Rattle.std.specs.Prelude.{◌≡◌, ◌+◌, ◌∷◌, ◌||◌, [], ℕ, false, is_some, IfOk, IfSome, IsErrOf, List, MatchOption, Option, Result, unwrap_or};
 ghost use Rattle.tile_streaming.specs.Common.{answered, ConvertError, GrewFrom, IsEmpty, IsPlain, KeepsMedium, ReadsOnly, Rose, RoseAt, State};
 ghost use Rattle.tile_streaming.specs.Hashing.{IsHashOf, IsRight};
 ghost use Rattle.tile_streaming.specs.Part.{part_in};
 ghost use Rattle.tile_streaming.specs.PatchedSet.{stored_in};
 ghost use Rattle.tile_streaming.specs.Sizing.{overflow_of};
+ghost use Rattle.tile_streaming.specs.Stands.{MediumStands, StoresStand};
 ghost use Rattle.tile_streaming.specs.Streaming.{IsHeld, IsHeldOf, IsHeldWith, PartLeaves, StreamCauses, tested_due};
 
 use crate::error::of_reader;
@@ -68,8 +69,9 @@ fn convert_held<S: TileStore, M: Medium>(
     ensures base_kept { ReadsOnly S.told S.tells S.faults S.steady base.old base.new }
     ensures medium_kept { KeepsMedium M.told M.versions M.reads M.faults M.steady
         medium.old medium.new }
-    ensures base_still { OnOk result (S.faults base.new ≡ S.faults base.old) }
-    ensures medium_still { OnOk result (M.faults medium.new ≡ M.faults medium.old) }
+    ensures base_still { (patches : List ℕ) → StoresStand (S.faults base.old ∷ patches)
+        (S.faults base.new ∷ patches) result }
+    ensures medium_still { MediumStands (M.faults medium.old) (M.faults medium.new) result }
 {
     writer.fits();
     let places = write_part(alloc, base, set, part, found, writer, medium)?;
@@ -131,8 +133,9 @@ fn convert_hashed<S: TileStore, O: StreamOptions, M: Medium>(
     ensures base_kept { ReadsOnly S.told S.tells S.faults S.steady base.old base.new }
     ensures medium_kept { KeepsMedium M.told M.versions M.reads M.faults M.steady
         medium.old medium.new }
-    ensures base_still { OnOk result (S.faults base.new ≡ S.faults base.old) }
-    ensures medium_still { OnOk result (M.faults medium.new ≡ M.faults medium.old) }
+    ensures base_still { (patches : List ℕ) → StoresStand (S.faults base.old ∷ patches)
+        (S.faults base.new ∷ patches) result }
+    ensures medium_still { MediumStands (M.faults medium.old) (M.faults medium.new) result }
 {
     if mark_overflows(&set.marked.marks) {
         return Err(StreamError::Convert(ConvertError::IndexEntryOverflow));
@@ -182,8 +185,9 @@ pub(crate) fn convert_marked<S: TileStore, O: StreamOptions, M: Medium>(
     ensures base_kept { ReadsOnly S.told S.tells S.faults S.steady base.old base.new }
     ensures medium_kept { KeepsMedium M.told M.versions M.reads M.faults M.steady
         medium.old medium.new }
-    ensures base_still { OnOk result (S.faults base.new ≡ S.faults base.old) }
-    ensures medium_still { OnOk result (M.faults medium.new ≡ M.faults medium.old) }
+    ensures base_still { (patches : List ℕ) → StoresStand (S.faults base.old ∷ patches)
+        (S.faults base.new ∷ patches) result }
+    ensures medium_still { MediumStands (M.faults medium.old) (M.faults medium.new) result }
 {
     let aggregate = hash_for(alloc, base, set, options.asked().verify, hash)?;
     convert_hashed(alloc, base, set, part, coords, options, aggregate, medium)

@@ -1,8 +1,10 @@
 // The conversion of a base, with patches or without, of which no contents are held.
-ghost use Rattle.std.specs.Prelude.{◌≡◌, ◌+◌, ◌∷◌, ◌||◌, [], ℕ, is_some, map, true, IfOk, IsErrOf, OnOk};
+ghost use Rattle.std.specs.Prelude.{◌≡◌, ◌+◌, ◌∷◌, ◌||◌, [], ℕ, is_some, map, true, IfOk, IsErrOf};
 ghost use Rattle.tile_streaming.specs.Common.{answered, due, GrewFrom, IsEmpty, IsPlain, Keeps, KeepsMedium, Rose, RoseAt};
 ghost use Rattle.byte_media.specs.Kept as media;
+ghost use Rattle.tile_bridge.specs.Stands as tests;
 ghost use Rattle.tile_bridge.specs.Stores.{AreOnlyRead};
+ghost use Rattle.tile_streaming.specs.Stands.{MediumStands, StoresStand};
 ghost use Rattle.tile_streaming.specs.Streaming.{due_of, PartLeaves, StreamCauses, StreamLeaves, TestCauses};
 
 use crate::converting::convert_marked;
@@ -21,7 +23,7 @@ fn test_medium<M: Medium>(options: &ConvertOptions, medium: &mut M) -> Result<()
         (M.faults medium.old) (M.faults medium.new) result }
     ensures reads { M.reads medium.new ≡ M.reads medium.old }
     ensures kept { media.ReadsOnly M.told M.versions M.faults M.steady medium.old medium.new }
-    ensures still { OnOk result (M.faults medium.new ≡ M.faults medium.old) }
+    ensures still { tests.MediumStands (M.faults medium.old) (M.faults medium.new) result }
 {
     let length = medium.len()?;
     if length != 0 {
@@ -69,10 +71,9 @@ fn convert_tested<S: TileStore, P: TileStore, O: StreamOptions, M: Medium>(
     ensures base_kept { Keeps S.tells S.faults S.steady base.old base.new }
     ensures medium_kept { KeepsMedium M.told M.versions M.reads M.faults M.steady
         medium.old medium.new }
-    ensures base_still { OnOk result (S.faults base.new ≡ S.faults base.old) }
-    ensures patches_still { OnOk result (map P.faults patches.new.items
-        ≡ map P.faults patches.old.items) }
-    ensures medium_still { OnOk result (M.faults medium.new ≡ M.faults medium.old) }
+    ensures stores_still { StoresStand (S.faults base.old ∷ map P.faults patches.old.items)
+        (S.faults base.new ∷ map P.faults patches.new.items) result }
+    ensures medium_still { MediumStands (M.faults medium.old) (M.faults medium.new) result }
 {
     match resolve(alloc, base, patches, options.asked().force) {
         Ok(set) => convert_marked(alloc, base, &set, part, coords, options, hash, medium),
@@ -118,10 +119,9 @@ pub fn convert_part<S: TileStore, P: TileStore, O: StreamOptions, M: Medium>(
     ensures base_kept { Keeps S.tells S.faults S.steady base.old base.new }
     ensures medium_kept { KeepsMedium M.told M.versions M.reads M.faults M.steady
         medium.old medium.new }
-    ensures base_still { OnOk result (S.faults base.new ≡ S.faults base.old) }
-    ensures patches_still { OnOk result (map P.faults patches.new.items
-        ≡ map P.faults patches.old.items) }
-    ensures medium_still { OnOk result (M.faults medium.new ≡ M.faults medium.old) }
+    ensures stores_still { StoresStand (S.faults base.old ∷ map P.faults patches.old.items)
+        (S.faults base.new ∷ map P.faults patches.new.items) result }
+    ensures medium_still { MediumStands (M.faults medium.old) (M.faults medium.new) result }
 {
     match test_medium(options.asked(), medium) {
         Ok(()) => convert_tested(alloc, base, patches, part, coords, options, hash, medium),
@@ -178,10 +178,9 @@ pub fn convert_patched<S: TileStore, P: TileStore, O: StreamOptions, M: Medium>(
     ensures base_kept { Keeps S.tells S.faults S.steady base.old base.new }
     ensures medium_kept { KeepsMedium M.told M.versions M.reads M.faults M.steady
         medium.old medium.new }
-    ensures base_still { OnOk result (S.faults base.new ≡ S.faults base.old) }
-    ensures patches_still { OnOk result (map P.faults patches.new.items
-        ≡ map P.faults patches.old.items) }
-    ensures medium_still { OnOk result (M.faults medium.new ≡ M.faults medium.old) }
+    ensures stores_still { StoresStand (S.faults base.old ∷ map P.faults patches.old.items)
+        (S.faults base.new ∷ map P.faults patches.new.items) result }
+    ensures medium_still { MediumStands (M.faults medium.old) (M.faults medium.new) result }
 {
     convert_part(alloc, base, patches, &None, coords, options, hash, medium)
 }
@@ -227,8 +226,8 @@ pub fn convert_streamed<S: TileStore, O: StreamOptions, M: Medium>(
     ensures base_kept { Keeps S.tells S.faults S.steady base.old base.new }
     ensures medium_kept { KeepsMedium M.told M.versions M.reads M.faults M.steady
         medium.old medium.new }
-    ensures base_still { OnOk result (S.faults base.new ≡ S.faults base.old) }
-    ensures medium_still { OnOk result (M.faults medium.new ≡ M.faults medium.old) }
+    ensures stores_still { StoresStand (S.faults base.old ∷ []) (S.faults base.new ∷ []) result }
+    ensures medium_still { MediumStands (M.faults medium.old) (M.faults medium.new) result }
 {
     let mut none: Vec<MemStore> = Vec::new(alloc);
     convert_patched(alloc, base, &mut none, coords, options, hash, medium)

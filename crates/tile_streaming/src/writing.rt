@@ -6,6 +6,7 @@ ghost use Rattle.tile_streaming.specs.Adding.{AreAdded, HaveLengths, IsAddedFor,
 ghost use Rattle.tile_streaming.specs.Part.{part_in};
 ghost use Rattle.tile_streaming.specs.PatchedSet.{bytes_in, stored_in};
 ghost use Rattle.tile_streaming.specs.Sizing.{overflow_of};
+ghost use Rattle.tile_streaming.specs.Stands.{BaseStands, MediumStands};
 ghost use Rattle.tile_streaming.specs.Stored.{IsStored};
 ghost use Rattle.tile_streaming.specs.Written.{AddsCauses, IsChanged, StepCauses, WrittenLeaves};
 
@@ -41,7 +42,7 @@ fn add_row<M: Medium>(
         → AddFits o adds mark.now.id taken)
         → AddsCauses (M.faults medium.old) (M.faults medium.new) result) }
     ensures kept { KeepsMedium M.told M.versions M.reads M.faults M.steady medium.old medium.new }
-    ensures still { OnOk result (M.faults medium.new ≡ M.faults medium.old) }
+    ensures still { MediumStands (M.faults medium.old) (M.faults medium.new) result }
 {
     let null = Cell::Null;
     let bytes = set.bytes_in(mark.id, row, &null);
@@ -77,8 +78,8 @@ fn add_mark<S: TileStore, M: Medium>(
     ensures store_kept { ReadsOnly S.told S.tells S.faults S.steady store.old store.new }
     ensures medium_kept { KeepsMedium M.told M.versions M.reads M.faults M.steady
         medium.old medium.new }
-    ensures store_still { OnOk result (S.faults store.new ≡ S.faults store.old) }
-    ensures medium_still { OnOk result (M.faults medium.new ≡ M.faults medium.old) }
+    ensures store_still { BaseStands (S.faults store.old) (S.faults store.new) result }
+    ensures medium_still { MediumStands (M.faults medium.old) (M.faults medium.new) result }
 {
     if mark.length == 0 {
         return Ok(());
@@ -112,8 +113,8 @@ fn add_marks<S: TileStore, M: Medium>(
     ensures store_kept { ReadsOnly S.told S.tells S.faults S.steady store.old store.new }
     ensures medium_kept { KeepsMedium M.told M.versions M.reads M.faults M.steady
         medium.old medium.new }
-    ensures store_still { OnOk result (S.faults store.new ≡ S.faults store.old) }
-    ensures medium_still { OnOk result (M.faults medium.new ≡ M.faults medium.old) }
+    ensures store_still { BaseStands (S.faults store.old) (S.faults store.new) result }
+    ensures medium_still { MediumStands (M.faults medium.old) (M.faults medium.new) result }
 {
     for mark in marks {
         add_mark(alloc, store, set, mark, state, medium)?;
@@ -146,8 +147,8 @@ fn write_marked<S: TileStore, M: Medium>(
     ensures store_kept { ReadsOnly S.told S.tells S.faults S.steady store.old store.new }
     ensures medium_kept { KeepsMedium M.told M.versions M.reads M.faults M.steady
         medium.old medium.new }
-    ensures store_still { OnOk result (S.faults store.new ≡ S.faults store.old) }
-    ensures medium_still { OnOk result (M.faults medium.new ≡ M.faults medium.old) }
+    ensures store_still { BaseStands (S.faults store.old) (S.faults store.new) result }
+    ensures medium_still { MediumStands (M.faults medium.old) (M.faults medium.new) result }
 {
     let mut state = match options.start(alloc, medium) {
         Ok(state) => state,
@@ -197,8 +198,8 @@ pub(crate) fn write_part<S: TileStore, M: Medium>(
     ensures store_kept { ReadsOnly S.told S.tells S.faults S.steady store.old store.new }
     ensures medium_kept { KeepsMedium M.told M.versions M.reads M.faults M.steady
         medium.old medium.new }
-    ensures store_still { OnOk result (S.faults store.new ≡ S.faults store.old) }
-    ensures medium_still { OnOk result (M.faults medium.new ≡ M.faults medium.old) }
+    ensures store_still { BaseStands (S.faults store.old) (S.faults store.new) result }
+    ensures medium_still { MediumStands (M.faults medium.old) (M.faults medium.new) result }
 {
     let marks = chosen_marks(found, set);
     write_marked(alloc, store, set, marks, options, medium)

@@ -1,17 +1,15 @@
 // Conversions that hold no contents, over a store that changes between the readings.
-use crate::answers::said_outcome;
+use crate::answers::{said_outcome, say_label};
 use crate::fields::{Fields, bytes_of};
-use crate::parts::part_of;
-use crate::stores::{options_of, script_of, whole};
+use crate::parts::{part_converted, part_of};
+use crate::stores::{Options, converted, options_of, script_of};
 use base_values::TextVal;
 use mb_store::{Changes, MemStore, Row, RowKey, StoreError, TableDesc, TableName, TileStore};
 use pm_format::MemMedium;
 use std::alloc::Global;
-use std::fmt::Write;
-use tile_bridge::ConvertOptions;
+use tile_bridge::{ConvertError, ConvertOptions, ConvertReport};
 use tile_extract::IdIntervals;
 use tile_ids::TileCoord;
-use tile_streaming::{StreamError, StreamReport, convert_part, convert_patched, convert_streamed};
 use tileset::Outcome;
 use tileset_script::ParsedScript;
 
@@ -108,20 +106,26 @@ fn key_of(alloc: Global, fields: &mut Fields) -> Option<RowKey> {
 }
 
 // A conversion over a changing store, with the options of a script: of a part, or by the call for all tiles.
-fn converted(
+fn answered(
     alloc: Global,
     store: &mut Changing,
     (options, patches, coords): (&ConvertOptions, &mut Vec<MemStore>, &[TileCoord]),
     part: Option<IdIntervals>,
     medium: &mut MemMedium,
-) -> Result<StreamReport, StreamError> {
+) -> Result<ConvertReport, ConvertError> {
     if part.is_some() {
-        return convert_part(alloc, store, patches, &part, coords, options, false, medium);
+        let asked = (options, Options::Streamed);
+        return part_converted(alloc, (store, patches), &part, coords, asked, medium);
     }
-    if patches.is_empty() {
-        return convert_streamed(alloc, store, coords, options, false, medium);
-    }
-    convert_patched(alloc, store, patches, coords, options, false, medium)
+    converted(
+        alloc,
+        store,
+        patches,
+        coords,
+        options,
+        Options::Streamed,
+        medium,
+    )
 }
 
 // Appends how a conversion over a changing store ends, and what stands at byte 97 of the medium.
@@ -147,15 +151,11 @@ fn say_changed(
     let mut medium = MemMedium::new(alloc);
     let options = options_of(options);
     let asked = (&options, &mut patches, queries.as_slice());
-    let answer = converted(alloc, &mut store, asked, part, &mut medium);
-    match whole(alloc, answer) {
+    match answered(alloc, &mut store, asked, part, &mut medium) {
         Ok(_) => said_outcome(alloc, out, Outcome::Done)?,
         Err(error) => said_outcome(alloc, out, Outcome::Refused(error))?,
     }
-    match medium.as_bytes().get(97) {
-        Some(label) => write!(out, "|{label}").ok(),
-        None => write!(out, "|none").ok(),
-    }
+    say_label(out, medium.as_bytes())
 }
 
 // The fields of a case behind those of a part.

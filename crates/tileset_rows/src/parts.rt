@@ -3,18 +3,18 @@ use crate::answers::said_outcome;
 use crate::fields::{Fields, bytes_of};
 use crate::said::{said_end, say_medium};
 use crate::stores::{Options, options_of, say_store, script_of, whole};
-use mb_store::MemStore;
+use mb_store::{MemStore, TileStore};
 use pm_format::MemMedium;
 use set_conversion::OptionsOfSet;
 use std::alloc::Global;
 use std::fmt::Write;
-use tile_bridge::{ConvertError, ConvertReport};
+use tile_bridge::{ConvertError, ConvertOptions, ConvertReport};
 use tile_extract::IdIntervals;
 use tile_ids::TileCoord;
 use tile_join::join;
 use tile_streaming::convert_part;
 use tileset::Outcome;
-use tileset_script::{ParsedScript, ScriptOptions};
+use tileset_script::ParsedScript;
 
 // How the options of a conversion are named.
 fn options_named(name: &str) -> Option<Options> {
@@ -41,23 +41,22 @@ pub fn part_of(alloc: Global, field: &str) -> Option<Option<IdIntervals>> {
     Some(Some(IdIntervals::new(items)?))
 }
 
-// A conversion of a part, with nothing said of it.
-fn converted(
+/// A conversion of a part, with nothing said of it.
+pub fn part_converted<S: TileStore>(
     alloc: Global,
-    (base, patches): (&mut MemStore, &mut Vec<MemStore>),
+    (base, patches): (&mut S, &mut Vec<MemStore>),
     part: &Option<IdIntervals>,
     coords: &[TileCoord],
-    (given, options): (ScriptOptions, Options),
+    (given, options): (&ConvertOptions, Options),
     medium: &mut MemMedium,
 ) -> Result<ConvertReport, ConvertError> {
-    let given = options_of(given);
     let hash = matches!(options, Options::Hashed);
     let answer = match options {
         Options::StreamedSet => {
             let said = OptionsOfSet::new(given.force, given.verify);
             convert_part(alloc, base, patches, part, coords, &said, hash, medium)
         }
-        _ => convert_part(alloc, base, patches, part, coords, &given, hash, medium),
+        _ => convert_part(alloc, base, patches, part, coords, given, hash, medium),
     };
     whole(alloc, answer)
 }
@@ -76,12 +75,12 @@ pub fn answer(alloc: Global, out: &mut String, fields: &mut Fields) -> Option<()
         mut patches,
         queries,
     } = script_of(alloc, script.as_slice())?;
-    let answer = converted(
+    let answer = part_converted(
         alloc,
         (&mut base, &mut patches),
         &part,
         queries.as_slice(),
-        (given, options),
+        (&options_of(given), options),
         &mut medium,
     );
     said_end(alloc, out, answer)?;
@@ -105,8 +104,10 @@ fn made(
     } = script_of(alloc, script)?;
     let mut medium = MemMedium::new(alloc);
     let stores = (&mut base, &mut patches);
+    let given = options_of(given);
+    let asked = (&given, options);
     Some(
-        match converted(alloc, stores, part, &[], (given, options), &mut medium) {
+        match part_converted(alloc, stores, part, &[], asked, &mut medium) {
             Ok(_) => Ok(medium),
             Err(error) => Err(error),
         },

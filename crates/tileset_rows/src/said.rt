@@ -2,7 +2,7 @@
 // words that ask for them.
 use crate::answers::{said_outcome, say, say_bytes};
 use crate::fields::{Fields, bytes_of, words_of};
-use crate::stores::{Options, converted, say_store, script_of};
+use crate::stores::{Options, converted, options_of, say_store, script_of};
 use base_values::{BlobVal, TextVal};
 use pm_format::MemMedium;
 use set_conversion::{
@@ -97,7 +97,7 @@ fn shown(
         &mut base,
         &mut patches,
         coords,
-        given,
+        &options_of(given),
         options,
         &mut medium,
     );

@@ -1,10 +1,12 @@
-use Rattle.tile_streaming.proofs.Common.{ArchivePlaces, Err, IsHeldWith, Ok, refl, Result, Rose, RoseAt, PartLeaves, StreamCauses, StreamError, StreamReport, subst, sym, [], ◌∙◌, ◌∷◌, ◌≡◌, None, stored_in, tested_due}
+use Rattle.tile_streaming.proofs.Common.{ap, ArchivePlaces, Err, false, IsHeldWith, Ok, refl, Result, Rose, RoseAt, PartLeaves, StreamCauses, StreamError, StreamReport, subst, sym, [], ◌∙◌, ◌∷◌, ◌≡◌, None, stored_in, tested_due}
 use Rattle.tile_streaming.proofs.PartLemmas.{part_fits}
 use Rattle.tile_streaming.proofs.StepLemmas.{same_error}
 use Rattle.tile_streaming.proofs.StreamLemmas.{can, error_of, medium_rose, no_store, part_left, same_word, step_causes, step_ends, store_rose, stored_all, unread_causes, unread_left, whole_causes, whole_left}
 use Rattle.tile_bridge.specs.ReadingBack.{of_read_error}
 use Rattle.tile_bridge.specs.declared.error.ConvertError.TheVariants.{MediumFault, StoreFault}
 use Rattle.tile_streaming.specs.declared.error.StreamError.TheVariants.{Convert}
+use Rattle.tile_streaming.proofs.StandsLemmas.{read_medium, stores_anyway, stores_step}
+use Rattle.tile_streaming.specs.Stands.{MediumStands, StoresStand}
 use Rattle.tile_streaming.proofs.converting.convert_held.Goals as goal
 
 pub write_part-requires-clause-size : goal.write_part-requires-clause-size
@@ -79,3 +81,23 @@ returns-in_err-places-clause-fault g c = λ h.
 
 pub returns-in-Err-clause-store_fault : goal.returns-in-Err-clause-store_fault
 returns-in-Err-clause-store_fault g c = λ place h. absurd (no_store c.in-Err.error place (same_word (of_read_error c.in-Err.error) _ (sym c.of_reader.ensures ∙ error_of c.of_reader.result _ h)))
+
+pub returns-in_err-places-clause-base_still : goal.returns-in_err-places-clause-base_still
+returns-in_err-places-clause-base_still g c = λ patches.
+    same_error c.in_err-places.field-0.0 _ (StoresStand (g.S.TileStore.faults c.args.base.now ∷ patches) (g.S.TileStore.faults c.write_part.new.store ∷ patches))
+    (stores_step {A = ArchivePlaces} (g.S.TileStore.tells c.args.base.now ≡ false) (g.S.TileStore.faults c.args.base.now) (g.S.TileStore.faults c.write_part.new.store) (g.M.Backend.faults c.args.medium.now) (g.M.Backend.faults c.write_part.new.medium) patches c.in_err-places.field-0.0 c.in_err-places.ensures.causes c.in_err-places.ensures.store_still) c.from_residual.ensures.1
+
+pub returns-in_err-places-clause-medium_still : goal.returns-in_err-places-clause-medium_still
+returns-in_err-places-clause-medium_still g c = same_error c.in_err-places.field-0.0 _ (MediumStands (g.M.Backend.faults c.args.medium.now) (g.M.Backend.faults c.write_part.new.medium)) c.in_err-places.ensures.medium_still c.from_residual.ensures.1
+
+pub returns-in-Ok-clause-base_still : goal.returns-in-Ok-clause-base_still
+returns-in-Ok-clause-base_still g c = λ patches. ap (λ n. n ∷ patches) c.in_ok-places.ensures.store_still
+
+pub returns-in-Ok-clause-medium_still : goal.returns-in-Ok-clause-medium_still
+returns-in-Ok-clause-medium_still g c = c.in-Ok.ensures.still ∙ c.in_ok-places.ensures.medium_still
+
+pub returns-in-Err-clause-base_still : goal.returns-in-Err-clause-base_still
+returns-in-Err-clause-base_still g c = λ patches. stores_anyway {A = StreamReport} _ _ (Err c.of_reader.result) (ap (λ n. n ∷ patches) c.in_ok-places.ensures.store_still)
+
+pub returns-in-Err-clause-medium_still : goal.returns-in-Err-clause-medium_still
+returns-in-Err-clause-medium_still g c = read_medium _ _ _ c.in-Err.error c.of_reader.result c.of_reader.ensures c.in_ok-places.ensures.medium_still c.in-Err.ensures.still

@@ -1,10 +1,12 @@
-use Rattle.tile_streaming.proofs.Common.{adds_of, ArchivePlaces, Err, false, of_write_error, rules, StepCauses, StreamError, subst, sym, WriterState, WrittenLeaves, [], ◌∙◌, ◌≡◌, stored_in}
+use Rattle.tile_streaming.proofs.Common.{adds_of, ArchivePlaces, Err, false, of_write_error, refl, rules, StepCauses, StreamError, subst, sym, WriterState, WrittenLeaves, [], ◌∙◌, ◌≡◌, stored_in}
 use Rattle.tile_bridge.proofs.WritingLemmas.{finish_refused, written_took}
 use Rattle.tile_streaming.proofs.ReadLemmas.{lengths_read}
 use Rattle.tile_streaming.proofs.StepLemmas.{add_step, end_refused, same_error, start_refused}
 use Rattle.tile_streaming.proofs.WrittenLemmas.{part_written, refused_left, whole_written}
 use Rattle.tile_bridge.specs.declared.error.ConvertError.TheVariants.{OutOfMemory}
 use Rattle.tile_streaming.specs.declared.error.StreamError.TheVariants.{Convert}
+use Rattle.tile_streaming.proofs.StandsLemmas.{base_anyway, medium_after, medium_anyway, written_medium}
+use Rattle.tile_streaming.specs.Stands.{BaseStands, MediumStands}
 use Rattle.tile_streaming.proofs.writing.write_marked.Goals as goal
 
 pub returns-in-Err-clause-leaves : goal.returns-in-Err-clause-leaves
@@ -69,3 +71,30 @@ returns-in-Err-finalize-clause-causes g c =
     subst (λ (x : StreamError). StepCauses {A = ArchivePlaces} changed store store_now before now (Err x)) (sym c.of_writer-in-Err-finalize.ensures)
     (add_step ArchivePlaces changed store store_now before now (Err (Convert (of_write_error c.in-Err-finalize.error))) (end_refused ArchivePlaces ArchivePlaces before now c.in-Err-finalize.error
     (finish_refused {A = ArchivePlaces} o so.taken before (g.M.Backend.faults c.add_marks.new.medium) now _ (Err c.in-Err-finalize.error) c.in_ok-add_marks.ensures.alive can (search rules) (c.in-Err-finalize.ensures.causes o so.taken so.writes))))
+
+pub returns-in-Err-clause-medium_still : goal.returns-in-Err-clause-medium_still
+returns-in-Err-clause-medium_still g c = written_medium _ _ c.in-Err.error c.of_writer.result c.of_writer.ensures
+
+pub returns-in-Err-clause-store_still : goal.returns-in-Err-clause-store_still
+returns-in-Err-clause-store_still g c = base_anyway {A = ArchivePlaces} _ _ (Err c.of_writer.result) refl
+
+pub returns-in_err-reserve-clause-store_still : goal.returns-in_err-reserve-clause-store_still
+returns-in_err-reserve-clause-store_still g c = base_anyway _ _ c.from_residual.result refl
+
+pub returns-in_err-reserve-clause-medium_still : goal.returns-in_err-reserve-clause-medium_still
+returns-in_err-reserve-clause-medium_still g c = medium_anyway _ _ c.from_residual.result c.in-Ok.ensures.still
+
+pub returns-in_err-add_marks-clause-store_still : goal.returns-in_err-add_marks-clause-store_still
+returns-in_err-add_marks-clause-store_still g c = same_error c.in_err-add_marks.field-0.0 _ (BaseStands (g.S.TileStore.faults c.args.store.now) (g.S.TileStore.faults c.add_marks.new.store)) c.in_err-add_marks.ensures.store_still c.from_residual-in_err-add_marks.ensures.1
+
+pub returns-in_err-add_marks-clause-medium_still : goal.returns-in_err-add_marks-clause-medium_still
+returns-in_err-add_marks-clause-medium_still g c = same_error c.in_err-add_marks.field-0.0 _ (MediumStands (g.M.Backend.faults c.args.medium.now) (g.M.Backend.faults c.add_marks.new.medium)) (medium_after {A = ArchivePlaces} _ _ _ (Err c.in_err-add_marks.field-0.0) c.in-Ok.ensures.still c.in_err-add_marks.ensures.medium_still) c.from_residual-in_err-add_marks.ensures.1
+
+pub returns-in-Err-finalize-clause-store_still : goal.returns-in-Err-finalize-clause-store_still
+returns-in-Err-finalize-clause-store_still g c = base_anyway {A = ArchivePlaces} _ _ (Err c.of_writer-in-Err-finalize.result) c.in_ok-add_marks.ensures.store_still
+
+pub returns-in-Err-finalize-clause-medium_still : goal.returns-in-Err-finalize-clause-medium_still
+returns-in-Err-finalize-clause-medium_still g c = written_medium _ _ c.in-Err-finalize.error c.of_writer-in-Err-finalize.result c.of_writer-in-Err-finalize.ensures
+
+pub returns-in-Ok-finalize-clause-medium_still : goal.returns-in-Ok-finalize-clause-medium_still
+returns-in-Ok-finalize-clause-medium_still g c = c.in-Ok-finalize.ensures.still ∙ c.in_ok-add_marks.ensures.medium_still ∙ c.in-Ok.ensures.still
