@@ -1,5 +1,6 @@
 -- The archive of a part of tiles, beside that of all of them.
-use Rattle.tile_streaming.proofs.Common.{address, ap, Bool, cond, false, get, is_solid, List, None, none-some, Option, Place, refl, solid, Some, sym, TileSet, true, ℕ, ◌∙◌, ◌≡◌, if◌then◌else◌}
+use Rattle.tile_streaming.proofs.Common.{address, ap, Bool, cond, false, get, is_solid, List, None, none-some, Option, Place, refl, solid, Some, sym, TileSet, true, ℕ, ◌∙◌, ◌≡◌}
+use Rattle.std.proofs.Common.{if◌then◌else◌}
 use Rattle.mb_tables.proofs.TileLemmas.{places_total, get-solid}
 use Rattle.pm_walk.specs.Intervals.{in_intervals}
 use Rattle.tile_bridge.specs.Convert.{HoldsExactly}
