@@ -2,7 +2,7 @@
 // words that ask for them.
 use crate::answers::{said_outcome, say, say_bytes};
 use crate::fields::{Fields, bytes_of, words_of};
-use crate::stores::{Options, converted, say_store, script_of};
+use crate::stores::{Options, converted, options_of, say_store, script_of};
 use base_values::{BlobVal, TextVal};
 use pm_format::MemMedium;
 use set_conversion::{
@@ -57,7 +57,8 @@ fn said_done(alloc: Global, out: &mut String, report: ConvertReport) -> Option<(
     )
 }
 
-fn said_end(
+/// Appends how a conversion ends.
+pub fn said_end(
     alloc: Global,
     out: &mut String,
     answer: Result<ConvertReport, ConvertError>,
@@ -68,8 +69,8 @@ fn said_end(
     }
 }
 
-// Appends how many bytes a medium has, and these or their digest.
-fn say_medium(alloc: Global, out: &mut String, medium: &MemMedium) -> Option<()> {
+/// Appends how many bytes a medium has, and these or their digest.
+pub fn say_medium(alloc: Global, out: &mut String, medium: &MemMedium) -> Option<()> {
     let length = medium.as_bytes().len();
     write!(out, "|{length}|").ok()?;
     say_bytes(alloc, out, medium.as_bytes(), 64)
@@ -95,7 +96,7 @@ fn shown(
         &mut base,
         &mut patches,
         coords,
-        given,
+        &options_of(given),
         options,
         &mut medium,
     );
