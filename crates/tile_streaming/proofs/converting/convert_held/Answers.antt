@@ -85,7 +85,7 @@ returns-in-Err-clause-store_fault g c = λ place h. absurd (no_store c.in-Err.er
 pub returns-in_err-places-clause-base_still : goal.returns-in_err-places-clause-base_still
 returns-in_err-places-clause-base_still g c = λ patches.
     same_error c.in_err-places.field-0.0 _ (StoresStand (g.S.TileStore.faults c.args.base.now ∷ patches) (g.S.TileStore.faults c.write_part.new.store ∷ patches))
-    (stores_step {A = ArchivePlaces} (g.S.TileStore.tells c.args.base.now ≡ false) (g.S.TileStore.faults c.args.base.now) (g.S.TileStore.faults c.write_part.new.store) (g.M.Backend.faults c.args.medium.now) (g.M.Backend.faults c.write_part.new.medium) patches c.in_err-places.field-0.0 c.in_err-places.ensures.causes c.in_err-places.ensures.store_still) c.from_residual.ensures.1
+    (stores_step ArchivePlaces (g.S.TileStore.tells c.args.base.now ≡ false) (g.S.TileStore.faults c.args.base.now) (g.S.TileStore.faults c.write_part.new.store) (g.M.Backend.faults c.args.medium.now) (g.M.Backend.faults c.write_part.new.medium) patches c.in_err-places.field-0.0 c.in_err-places.ensures.causes c.in_err-places.ensures.store_still) c.from_residual.ensures.1
 
 pub returns-in_err-places-clause-medium_still : goal.returns-in_err-places-clause-medium_still
 returns-in_err-places-clause-medium_still g c = same_error c.in_err-places.field-0.0 _ (MediumStands (g.M.Backend.faults c.args.medium.now) (g.M.Backend.faults c.write_part.new.medium)) c.in_err-places.ensures.medium_still c.from_residual.ensures.1
