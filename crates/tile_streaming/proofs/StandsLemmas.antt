@@ -45,26 +45,26 @@ pub read_medium : (before mid now : ℕ) (e : PmtError) (x : StreamError) → x 
 read_medium before mid now e x is same h = subst (MediumStandsAt before now) (sym is) (convert.read_stands before mid now e (of_read_error e) refl same h)
 
 -- a row that isn't found
-pub base_found : {A : Type 0} (before now : ℕ) (e : StreamError) → FindCauses {A = A} ⊥ before now (Err e) → BaseStandsAt before now e
-base_found before now StoreChanged c = absurd c
-base_found before now (Convert (refused.StoreFault place)) c = tt
-base_found before now (Convert refused.OutOfMemory) c = tt
-base_found before now (Convert _) c = absurd c
+pub base_found : (A : Type 0) (before now : ℕ) (e : StreamError) → FindCauses {A = A} ⊥ before now (Err e) → BaseStandsAt before now e
+base_found A before now StoreChanged c = absurd c
+base_found A before now (Convert (refused.StoreFault place)) c = tt
+base_found A before now (Convert refused.OutOfMemory) c = tt
+base_found A before now (Convert _) c = absurd c
 
 -- the base and its patches, where a step of the base ends it, or its hash
-pub stores_step : {A : Type 0} (changed : Type 0) (before now medium medium_now : ℕ) (patches : List ℕ) (x : StreamError) → StepCauses {A = A} changed before now medium medium_now (Err x) → BaseStandsAt before now x → StoresStandAt (before ∷ patches) (now ∷ patches) x
-stores_step changed before now medium medium_now patches StoreChanged c h = ap (λ n. n ∷ patches) h
-stores_step changed before now medium medium_now patches (Convert (refused.StoreFault place)) c h = convert.base_alone before now patches (refused.StoreFault place) c.0
-stores_step changed before now medium medium_now patches (Convert refused.MediumFault) c h = ap (λ n. n ∷ patches) h
-stores_step changed before now medium medium_now patches (Convert refused.OutOfMemory) c h = tt
-stores_step changed before now medium medium_now patches (Convert _) c h = absurd c
+pub stores_step : (A : Type 0) (changed : Type 0) (before now medium medium_now : ℕ) (patches : List ℕ) (x : StreamError) → StepCauses {A = A} changed before now medium medium_now (Err x) → BaseStandsAt before now x → StoresStandAt (before ∷ patches) (now ∷ patches) x
+stores_step A changed before now medium medium_now patches StoreChanged c h = ap (λ n. n ∷ patches) h
+stores_step A changed before now medium medium_now patches (Convert (refused.StoreFault place)) c h = convert.base_alone before now patches (refused.StoreFault place) c.0
+stores_step A changed before now medium medium_now patches (Convert refused.MediumFault) c h = ap (λ n. n ∷ patches) h
+stores_step A changed before now medium medium_now patches (Convert refused.OutOfMemory) c h = tt
+stores_step A changed before now medium medium_now patches (Convert _) c h = absurd c
 
-pub stores_hash : {A : Type 0} (verify tells : Bool) (stored : Stored) (m : MarkedSet) (before now : ℕ) (patches : List ℕ) (x : StreamError) → HashCauses {A = A} verify tells stored m before now (Err x) → BaseStandsAt before now x → StoresStandAt (before ∷ patches) (now ∷ patches) x
-stores_hash verify tells stored m before now patches StoreChanged c h = ap (λ n. n ∷ patches) h
-stores_hash verify tells stored m before now patches (Convert (refused.StoreFault place)) c h = convert.base_alone before now patches (refused.StoreFault place) c.0
-stores_hash verify tells stored m before now patches (Convert (refused.Store place e)) c h = convert.base_alone before now patches (refused.Store place e) c.1.0
-stores_hash verify tells stored m before now patches (Convert refused.OutOfMemory) c h = tt
-stores_hash verify tells stored m before now patches (Convert _) c h = absurd c
+pub stores_hash : (A : Type 0) (verify tells : Bool) (stored : Stored) (m : MarkedSet) (before now : ℕ) (patches : List ℕ) (x : StreamError) → HashCauses {A = A} verify tells stored m before now (Err x) → BaseStandsAt before now x → StoresStandAt (before ∷ patches) (now ∷ patches) x
+stores_hash A verify tells stored m before now patches StoreChanged c h = ap (λ n. n ∷ patches) h
+stores_hash A verify tells stored m before now patches (Convert (refused.StoreFault place)) c h = convert.base_alone before now patches (refused.StoreFault place) c.0
+stores_hash A verify tells stored m before now patches (Convert (refused.Store place e)) c h = convert.base_alone before now patches (refused.Store place e) c.1
+stores_hash A verify tells stored m before now patches (Convert refused.OutOfMemory) c h = tt
+stores_hash A verify tells stored m before now patches (Convert _) c h = absurd c
 
 -- without patches
 pub alone : {P A : Type 0} (failed : P → ℕ) (before now : ℕ) (xs ys : List P) (r : Result A StreamError) → xs ≡ [] → ys ≡ [] → StoresStand (before ∷ map failed xs) (now ∷ map failed ys) r → StoresStand (before ∷ []) (now ∷ []) r

@@ -105,7 +105,7 @@ returns-clause-aggregate g c =
 pub returns-in_err-aggregate-clause-base_still : goal.returns-in_err-aggregate-clause-base_still
 returns-in_err-aggregate-clause-base_still g c = λ patches.
     same_error c.in_err-aggregate.field-0.0 _ (StoresStand (g.S.TileStore.faults c.args.base.now ∷ patches) (g.S.TileStore.faults c.hash_for.new.store ∷ patches))
-    (stores_hash {A = Option (List ℕ)} c.asked.result.now.verify (g.S.TileStore.tells c.args.base.now) (stored_in c.args.set.now (g.S.TileStore.told c.args.base.now)) c.args.set.now.marked (g.S.TileStore.faults c.args.base.now) (g.S.TileStore.faults c.hash_for.new.store) patches c.in_err-aggregate.field-0.0 c.in_err-aggregate.ensures.causes c.in_err-aggregate.ensures.still) c.from_residual.ensures.1
+    (stores_hash (Option (List ℕ)) c.asked.result.now.verify (g.S.TileStore.tells c.args.base.now) (stored_in c.args.set.now (g.S.TileStore.told c.args.base.now)) c.args.set.now.marked (g.S.TileStore.faults c.args.base.now) (g.S.TileStore.faults c.hash_for.new.store) patches c.in_err-aggregate.field-0.0 c.in_err-aggregate.ensures.causes c.in_err-aggregate.ensures.still) c.from_residual.ensures.1
 
 pub returns-in_err-aggregate-clause-medium_still : goal.returns-in_err-aggregate-clause-medium_still
 returns-in_err-aggregate-clause-medium_still g c = medium_anyway _ _ c.from_residual.result refl

@@ -12,5 +12,5 @@ returns-in-Ok-clause-added g c = λ o adds w.
     subst (λ bytes. IsTaken o adds c.args.mark.now.id bytes told (g.M.Backend.told c.add_raw_tile_with_digest.new.medium) c.add_raw_tile_with_digest.new.self) c.bytes_in-bytes.ensures
     (record { taken = a.0; took = a.1.0; writes = a.2 })
 
-pub returns-in-Err-clause-still : goal.returns-in-Err-clause-still
-returns-in-Err-clause-still g c = written_medium _ _ c.in-Err.error c.of_writer.result c.of_writer.ensures
+pub returns-clause-still : goal.returns-clause-still
+returns-clause-still g c = written_medium _ _ c.in-Err.error c.of_writer.result c.of_writer.ensures
