@@ -50,12 +50,14 @@ bytes_of() {
     stat -Lc %s "$1" 2>/dev/null || echo 0
 }
 
-# bytes_to_read FILE.. OUT: how many bytes the program reads of sets. The base is read three times, page by page, and
-# once more for the hash, which is also made where there are patches. The file of a patch above the 8 MiB that the
-# program keeps is read five times while it is opened, and once for its rows.
+# bytes_to_read FILE.. OUT: how many bytes the program reads of sets. The base is read three times, page by page, the
+# third time its part alone where one is asked for, and once more for the hash, which is also made where there are
+# patches. The file of a patch above the 8 MiB that the program keeps is read five times while it is opened, and once
+# for its rows.
 bytes_to_read() {
     times=3
-    [ -z "$hash$verify" ] && [ $# -le 2 ] || times=4
+    [ -z "$part" ] || times=2
+    [ -z "$hash$verify" ] && [ $# -le 2 ] || times=$((times + 1))
     bytes=$((times * $(bytes_of "$1")))
     shift
     while [ $# -gt 1 ]; do
@@ -86,7 +88,8 @@ follow() {
 # convert FILE..: runs the program, and sets `ended` to its status
 convert() {
     expected=$(bytes_to_read "$@")
-    set -- ${force:+--force} ${verify:+--verify} ${hash:+--hash} ${overwrite:+--overwrite} ${strict:+--strict} -- "$@"
+    set -- ${force:+--force} ${verify:+--verify} ${hash:+--hash} ${overwrite:+--overwrite} ${strict:+--strict} \
+        ${part:+"$part" "$first" "$second"} ${third:+"$third"} -- "$@"
     # where it is installed the program stands beside this script
     if [ -x "$here/mbtiles_to_pmtiles_program" ]; then
         "$here/mbtiles_to_pmtiles_program" "$@" &

@@ -1,16 +1,16 @@
 -- The rows that a cursor has left, from call to call.
-use Rattle.std.proofs.Common.{◌≡◌, ◌+ℤ◌, ◌∙◌, ◌∷◌, ◌++◌, [], ap, Bool, false, inl, inr, int_cmp, int_lt, is_lt, List, map, negsuc, None, of_z, Option, pos, refl, SFits, Some, subst, sym, to_z, true, w64, ℕ, ℤ, arith}
+use Rattle.std.proofs.Common.{◌≡◌, ◌+ℤ◌, ◌∙◌, ◌∷◌, ◌++◌, [], ap, false, inl, inr, int_cmp, int_lt, is_lt, List, map, negsuc, None, of_z, Option, pos, refl, SFits, Some, subst, sym, to_z, true, w64, ℕ, ℤ, arith}
 use Rattle.std.specs.Prelude.{SomeIff}
 use Rattle.std.proofs.lemmas.Bool.{cases_Bool}
 use Rattle.std.proofs.lemmas.Int.{ints, to_z-of_z}
-use Rattle.sqlite_btree.proofs.ViewLemmas.{ascends_rows, rowid_fits}
+use Rattle.sqlite_btree.proofs.ViewLemmas.{rowid_fits}
 use Rattle.sqlite_btree.specs.Batch.{IsBatchOf, IsFilled, left_in, taken, TookFirst}
 use Rattle.sqlite_btree.specs.Chain.{Entry, Layout}
 use Rattle.sqlite_btree.specs.Cut.{Ascends, Each, from_cut}
 use Rattle.sqlite_btree.specs.Stored.{as_row, by_rowid, IsTable}
 use Rattle.sqlite_btree.specs.declared.batch.Batch.{Batch}
 use Rattle.sqlite_pages.specs.PageMap.{PageMap}
-use Rattle.mb_file.specs.Cursor.{IsAmong, left_of, row_of, rows_from, Stored, Took}
+use Rattle.mb_file.specs.Cursor.{IsAmong, left_of, row_of, rows_from, Stored}
 use Rattle.mb_file.specs.declared.cursor.Cursor.{Cursor}
 
 -- rows in the order of their rowids

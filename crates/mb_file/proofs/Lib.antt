@@ -7,3 +7,4 @@ mod NumberLemmas
 mod PageLemmas
 mod RecordLemmas
 mod RowLemmas
+mod ScanLemmas

@@ -7,5 +7,6 @@ pub mod KeyOrder
 pub mod Numbers
 pub mod Record
 pub mod RowAt
+pub mod Scan
 pub mod SetTable
 pub mod Source

@@ -1,5 +1,5 @@
 -- The rows of a set that the rows of its tables are read as.
-use Rattle.std.specs.Prelude.{◌≡◌, cond, filter_map, List, Option, Some, None}
+use Rattle.std.specs.Prelude.{cond, filter_map, List, Option, Some, None}
 use Rattle.mb_reading.specs.Filling.{misplaced}
 use Rattle.mb_reading.specs.Rows.{is_placed, row_in}
 use Rattle.mb_reading.specs.declared.filling.Step.{Step}

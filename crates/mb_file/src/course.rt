@@ -78,7 +78,9 @@ impl Course {
     }
 
     // Where that row is read again: its rowid, or the place of its cell.
-    pub(crate) fn place(&self) -> i64 {
+    pub(crate) fn place(&self) -> i64
+        ensures { has_key self.now ≡ false → result ≡ (row_in self.now).0 }
+    {
         match self {
             Course::Rows(cursor) => cursor.rowid(),
             Course::Keys(walk) => walk.place(),

@@ -18,6 +18,7 @@ mod metadata;
 mod numbers;
 mod opening;
 mod pages;
+mod paging;
 mod record;
 mod scan;
 mod set_table;

@@ -1,7 +1,9 @@
 // A table of a set: its rows in the order of its tree, and by their keys.
-ghost use Rattle.std.specs.Prelude.{◌≡◌, ◌≤◌, true, All, IfOk, IfSome, length};
+ghost use Rattle.std.specs.Prelude.{◌≡◌, ◌≤◌, true, All, IfOk, IfSome, drop, length, take};
 ghost use Rattle.mb_tables.specs.Key.{has_key};
 ghost use Rattle.mb_tables.specs.Table.{width};
+ghost use Rattle.mb_file.specs.FilePages.{GoesOn, pages_of};
+ghost use Rattle.mb_file.specs.Scan.{Scans};
 
 use crate::FileFault;
 use crate::numbers::number_of_key;
@@ -45,7 +47,14 @@ impl Listing {
         limit: u64,
     ) -> Result<Vec<Row>, FileFault>
         ensures widths { IfOk result (λ rows. All (λ row. length row ≡ width table) rows.items) }
+        ensures stands { Scans source.old.pages source.new.pages self.old.of.root table
+            self.old.of.columns self.old.scan
+            (λ Stands all. Stands self.new.scan
+            × IfOk result (λ rows. rows.items ≡ take limit (drop from all))) }
         ensures limit { IfOk result (λ rows. length rows.items ≤ limit) }
+        ensures same { self.new ≡ record self.old { scan = self.new.scan } }
+        ensures kept { GoesOn source.old.pages source.new.pages }
+        ensures pages { pages_of source.new.pages ≡ pages_of source.old.pages }
     {
         self.scan.page(alloc, source, table, &self.of, from, limit)
     }
@@ -55,7 +64,14 @@ impl Listing {
         &mut self,
         alloc: Global,
         source: &mut Source<D>,
-    ) -> Result<u64, FileFault> {
+    ) -> Result<u64, FileFault>
+        ensures stands { Scans source.old.pages source.new.pages self.old.of.root self.old.table
+            self.old.of.columns self.old.scan
+            (λ Stands all. Stands self.new.scan) }
+        ensures same { self.new ≡ record self.old { scan = self.new.scan } }
+        ensures kept { GoesOn source.old.pages source.new.pages }
+        ensures pages { pages_of source.new.pages ≡ pages_of source.old.pages }
+    {
         self.scan.complete(alloc, source, self.table, &self.of)?;
         Ok(self.scan.count)
     }
@@ -65,7 +81,14 @@ impl Listing {
         &mut self,
         alloc: Global,
         source: &mut Source<D>,
-    ) -> Result<u64, FileFault> {
+    ) -> Result<u64, FileFault>
+        ensures stands { Scans source.old.pages source.new.pages self.old.of.root self.old.table
+            self.old.of.columns self.old.scan
+            (λ Stands all. Stands self.new.scan) }
+        ensures same { self.new ≡ record self.old { scan = self.new.scan } }
+        ensures kept { GoesOn source.old.pages source.new.pages }
+        ensures pages { pages_of source.new.pages ≡ pages_of source.old.pages }
+    {
         self.scan.complete(alloc, source, self.table, &self.of)?;
         Ok(self.scan.size)
     }

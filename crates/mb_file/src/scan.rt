@@ -1,13 +1,20 @@
 // The rows of a table in the order of its tree, numbered on the way.
-ghost use Rattle.std.specs.Prelude.{◌≡◌, ◌≤◌, All, IfOk, IfSome, length};
+ghost use Rattle.std.specs.Prelude.{◌≡◌, ℕ, ◌^◌, ◌<◌, false, IfOk, IfSome, length};
 ghost use Rattle.mb_tables.specs.Table.{width};
+ghost use Rattle.sqlite_btree.specs.Chain.{Layout};
+ghost use Rattle.sqlite_btree.specs.Stored.{IsTable};
+ghost use Rattle.sqlite_pages.specs.PageMap.{PageMap};
+ghost use Rattle.mb_file.specs.Course.{has_key, row_in};
+ghost use Rattle.mb_file.specs.FilePages.{GoesOn, pages_of};
+ghost use Rattle.mb_file.specs.Scan.{Goes, IsScan, Scans, behind};
+ghost use Rattle.mb_file.specs.SetTable.{set_row, set_rows};
 
 use crate::FileFault;
 use crate::course::Course;
 use crate::numbers::{Numbered, number_of_row};
 use crate::set_table::{SetTable, taken};
 use crate::source::Source;
-use mb_reading::Step;
+use mb_reading::{Answer, LeftOut, Step};
 use mb_store::size_with_cells;
 use mb_tables::{Row, TableName};
 use sqlite_disk::Disk;
@@ -15,11 +22,11 @@ use std::alloc::Global;
 
 #[derive(Drop)]
 pub(crate) struct Scan {
-    course: Course,
+    pub(crate) course: Course,
     // How many rows of the set lie before it.
-    position: u64,
+    pub(crate) position: u64,
     // The least number that no row had so far, None once all rows were read.
-    unseen: Option<i64>,
+    pub(crate) unseen: Option<i64>,
     // Whether a row was read, of the set or not.
     any: bool,
     // How many rows of the set were read so far, and the bytes of their cells.
@@ -29,8 +36,29 @@ pub(crate) struct Scan {
     pub(crate) numbered: Vec<Numbered>,
 }
 
+// What is left out, with a row that was never read before.
+fn counted_if(
+    is_new: bool,
+    left_out: LeftOut,
+    table: TableName,
+    answer: Answer<'_>,
+    step: Step,
+) -> LeftOut {
+    if is_new {
+        left_out.counted(table, answer, step)
+    } else {
+        left_out
+    }
+}
+
 impl Scan {
-    pub(crate) fn new(alloc: Global, is_keyed: bool) -> Scan {
+    pub(crate) fn new(alloc: Global, is_keyed: bool) -> Scan
+        ensures kind { has_key result.course ≡ is_keyed }
+        ensures stands { is_keyed ≡ false → (layout : Layout) (usable root : ℕ) (pages : PageMap)
+            (table : _) (columns : _) (rows : _) → IsTable usable layout root rows
+            → length (set_rows table columns rows) < 2 ^ 64
+            → IsScan layout usable pages table columns rows result }
+    {
         Scan {
             course: Course::new(alloc, is_keyed),
             position: 0,
@@ -43,14 +71,25 @@ impl Scan {
     }
 
     // Goes before the first row again.
-    fn restart(&mut self, alloc: Global) {
+    pub(crate) fn restart(&mut self, alloc: Global)
+        ensures kind { has_key self.new.course ≡ has_key self.old.course }
+        ensures stands { has_key self.old.course ≡ false → (layout : Layout) (usable root : ℕ) (pages : PageMap)
+            (table : _) (columns : _) (rows : _) → IsTable usable layout root rows
+            → length (set_rows table columns rows) < 2 ^ 64
+            → IsScan layout usable pages table columns rows self.new }
+        ensures place { self.new.position ≡ 0 }
+        ensures same { self.new ≡ record self.old { course = self.new.course; position = 0 } }
+    {
         let course = self.course.anew(alloc);
         self.course = course;
         self.position = 0;
     }
 
     // Notes a row that was never read before.
-    fn note(&mut self, secret: u64, row: &Row) -> Result<(), FileFault> {
+    fn note(&mut self, secret: u64, row: &Row) -> Result<(), FileFault>
+        ensures course { self.new.course ≡ self.old.course }
+        ensures place { self.new.position ≡ self.old.position }
+    {
         if let Some(number) = number_of_row(secret, row) {
             let place = self.course.place();
             self.numbered.push(Numbered { number, place })?;
@@ -68,6 +107,28 @@ impl Scan {
         }
     }
 
+    // Notes a row where it was never read before.
+    fn see(
+        &mut self,
+        secret: u64,
+        is_new: bool,
+        number: i64,
+        step: Step,
+        row: &Row,
+    ) -> Result<(), FileFault>
+        ensures course { self.new.course ≡ self.old.course }
+        ensures place { self.new.position ≡ self.old.position }
+    {
+        if !is_new {
+            return Ok(());
+        }
+        if step == Step::Added {
+            self.note(secret, row)?;
+        }
+        self.unseen = number.checked_add(1);
+        Ok(())
+    }
+
     // Takes the row that was read last. None where the set has no such row.
     fn take<D: Disk>(
         &mut self,
@@ -76,21 +137,21 @@ impl Scan {
         table: TableName,
         of: &SetTable,
     ) -> Result<Option<Row>, FileFault>
+        ensures row { IfOk result
+            (λ row. row ≡ set_row table of.now.columns (row_in self.old.course)) }
+        ensures place { IfOk result (λ row. self.new.position ≡ behind self.old.position row) }
+        ensures course { self.new.course ≡ self.old.course }
         ensures wide { IfOk result (λ row. IfSome row (λ row. length row ≡ width table)) }
+        ensures pages { source.new.pages ≡ source.old.pages }
     {
         self.any = true;
         let number = self.course.number();
         let is_new = self.is_new(number);
         let answer = of.answer(number, self.course.record());
         let (row, step) = taken(alloc, table, answer)?;
-        if is_new {
-            let left_out = source.left_out.counted(table, answer, step);
-            if step == Step::Added {
-                self.note(source.secret, &row)?;
-            }
-            source.left_out = left_out;
-            self.unseen = number.checked_add(1);
-        }
+        let left_out = counted_if(is_new, source.left_out, table, answer, step);
+        self.see(source.secret, is_new, number, step, &row)?;
+        source.left_out = left_out;
         if step != Step::Added {
             return Ok(None);
         }
@@ -99,7 +160,10 @@ impl Scan {
     }
 
     // The end of the table, where some of its rows is one of the set, or it has none.
-    fn end(&mut self, table: TableName) -> Result<(), FileFault> {
+    fn end(&mut self, table: TableName) -> Result<(), FileFault>
+        ensures course { self.new.course ≡ self.old.course }
+        ensures place { self.new.position ≡ self.old.position }
+    {
         if self.any && self.count == 0 {
             return Err(FileFault::Outside { table });
         }
@@ -108,16 +172,23 @@ impl Scan {
     }
 
     // The next row, None past the last one.
-    fn next_row<D: Disk>(
+    pub(crate) fn next_row<D: Disk>(
         &mut self,
         alloc: Global,
         source: &mut Source<D>,
         table: TableName,
         of: &SetTable,
     ) -> Result<Option<Row>, FileFault>
+        ensures stands { Scans source.old.pages source.new.pages of.now.root table of.now.columns
+            self.old
+            (λ Stands all. IfOk result (λ row. Stands self.new
+            × Goes all self.old.position self.new.position row)) }
         ensures wide { IfOk result (λ row. IfSome row (λ row. length row ≡ width table)) }
+        ensures kind { has_key self.new.course ≡ has_key self.old.course }
+        ensures kept { GoesOn source.old.pages source.new.pages }
+        ensures pages { pages_of source.new.pages ≡ pages_of source.old.pages }
     {
-        for _ in 0..u64::MAX {
+        'rows: for _ in 0..u64::MAX {
             if !self
                 .course
                 .advance(&mut source.pages, &mut source.scratch, of.root)?
@@ -130,120 +201,5 @@ impl Scan {
             }
         }
         Err(FileFault::Damaged)
-    }
-
-    // Passes over rows up to a place, and says whether there are so many.
-    fn pass<D: Disk>(
-        &mut self,
-        alloc: Global,
-        source: &mut Source<D>,
-        table: TableName,
-        of: &SetTable,
-        to: u64,
-    ) -> Result<bool, FileFault> {
-        if to < self.position {
-            self.restart(alloc);
-        }
-        for _ in self.position..to {
-            if self.next_row(alloc, source, table, of)?.is_none() {
-                return Ok(false);
-            }
-        }
-        Ok(true)
-    }
-
-    // The next rows, at most so many.
-    fn gather<D: Disk>(
-        &mut self,
-        alloc: Global,
-        source: &mut Source<D>,
-        table: TableName,
-        of: &SetTable,
-        limit: u64,
-    ) -> Result<Vec<Row>, FileFault>
-        ensures widths { IfOk result (λ rows. All (λ row. length row ≡ width table) rows.items) }
-        ensures limit { IfOk result (λ rows. length rows.items ≤ limit) }
-    {
-        let mut rows = Vec::new(alloc);
-        'rows: for _ in 0..u64::MAX {
-            if rows.len() as u64 >= limit {
-                return Ok(rows);
-            }
-            let Some(row) = self.next_row(alloc, source, table, of)? else {
-                return Ok(rows);
-            };
-            rows.push(row)?;
-        }
-        Ok(rows)
-    }
-
-    // The rows from a place on, at most so many.
-    fn rows<D: Disk>(
-        &mut self,
-        alloc: Global,
-        source: &mut Source<D>,
-        table: TableName,
-        of: &SetTable,
-        from: u64,
-        limit: u64,
-    ) -> Result<Vec<Row>, FileFault>
-        ensures widths { IfOk result (λ rows. All (λ row. length row ≡ width table) rows.items) }
-        ensures limit { IfOk result (λ rows. length rows.items ≤ limit) }
-    {
-        if !self.pass(alloc, source, table, of, from)? {
-            return Ok(Vec::new(alloc));
-        }
-        self.gather(alloc, source, table, of, limit)
-    }
-
-    // The same. After a fault the next call begins at the first row.
-    pub(crate) fn page<D: Disk>(
-        &mut self,
-        alloc: Global,
-        source: &mut Source<D>,
-        table: TableName,
-        of: &SetTable,
-        from: u64,
-        limit: u64,
-    ) -> Result<Vec<Row>, FileFault>
-        ensures widths { IfOk result (λ rows. All (λ row. length row ≡ width table) rows.items) }
-        ensures limit { IfOk result (λ rows. length rows.items ≤ limit) }
-    {
-        let answer = self.rows(alloc, source, table, of, from, limit);
-        if answer.is_err() {
-            self.restart(alloc);
-        }
-        answer
-    }
-
-    // Reads on to the last row, so that each was noted.
-    fn read_on<D: Disk>(
-        &mut self,
-        alloc: Global,
-        source: &mut Source<D>,
-        table: TableName,
-        of: &SetTable,
-    ) -> Result<(), FileFault> {
-        for _ in 0..u64::MAX {
-            if self.unseen.is_none() || self.next_row(alloc, source, table, of)?.is_none() {
-                return Ok(());
-            }
-        }
-        Err(FileFault::Damaged)
-    }
-
-    // Notes all rows that weren't read yet.
-    pub(crate) fn complete<D: Disk>(
-        &mut self,
-        alloc: Global,
-        source: &mut Source<D>,
-        table: TableName,
-        of: &SetTable,
-    ) -> Result<(), FileFault> {
-        let answer = self.read_on(alloc, source, table, of);
-        if answer.is_err() {
-            self.restart(alloc);
-        }
-        answer
     }
 }

@@ -5,6 +5,7 @@ ghost use Rattle.mb_reading.specs.Rows.{row_in};
 ghost use Rattle.mb_tables.specs.Table.{width};
 ghost use Rattle.sqlite_pages.specs.Calls.{Continues};
 ghost use Rattle.mb_file.specs.FilePages.{pages_of};
+ghost use Rattle.mb_file.specs.Record.{values_in};
 ghost use Rattle.mb_file.specs.RowAt.{GivesRowAt, ReadsRecord};
 ghost use Rattle.mb_file.specs.SetTable.{step_of};
 
@@ -61,7 +62,9 @@ impl SetTable {
     }
 
     // The values of a record in the columns of the set.
-    pub(crate) fn answer<'a>(&'a self, rowid: i64, record: &'a [u8]) -> Answer<'a> {
+    pub(crate) fn answer<'a>(&'a self, rowid: i64, record: &'a [u8]) -> Answer<'a>
+        ensures { answer_row result ≡ values_in self.now.columns rowid record.now }
+    {
         answer_of(&self.columns, rowid, record)
     }
 

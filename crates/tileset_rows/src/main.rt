@@ -16,6 +16,7 @@ mod many;
 mod measured;
 mod on_file;
 mod other;
+mod parts;
 mod redescribed;
 mod running;
 mod said;
@@ -55,7 +56,10 @@ impl Rows for Cases {
             "streamed" => said::answer(alloc, out, &mut fields, Options::Streamed),
             "hashed" => said::answer(alloc, out, &mut fields, Options::Hashed),
             "streamed-said" => said::answer(alloc, out, &mut fields, Options::StreamedSet),
+            "part" => parts::answer(alloc, out, &mut fields),
+            "parts-joined" => parts::joined(alloc, out, &mut fields),
             "changing" => changing::answer(alloc, out, &mut fields),
+            "changing-part" => changing::of_part(alloc, out, &mut fields),
             "redescribed" => redescribed::answer(alloc, out, &mut fields),
             "hindered-said" => hindered::answer(alloc, out, &mut fields, Options::Set),
             "hindered-streamed" => hindered::answer(alloc, out, &mut fields, Options::Streamed),

@@ -1,4 +1,4 @@
-use Rattle.std.proofs.Common.{false, true, w64, ◌≡◌}
+use Rattle.std.proofs.Common.{w64}
 use Rattle.std.proofs.lemmas.Int.{to_z-of_z}
 use Rattle.mb_file.proofs.cursor.fill_empty.Goals as goal
 

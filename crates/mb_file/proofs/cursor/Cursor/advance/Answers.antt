@@ -1,4 +1,4 @@
-use Rattle.std.proofs.Common.{arith, false, int_lt, None, of_z, pos, refl, rules, SFits, subst, subst₂, sym, to_z, true, w64, ℕ, ℤ, ◌+ℤ◌, ◌∙◌, ◌≡◌}
+use Rattle.std.proofs.Common.{arith, false, int_lt, None, of_z, pos, refl, rules, SFits, subst, subst₂, sym, to_z, true, w64, ℕ, ℤ, ◌+ℤ◌, ◌≡◌}
 use Rattle.std.specs.Prelude.{SomeIff}
 use Rattle.std.proofs.lemmas.Result.{err_from_is_err_and}
 use Rattle.sqlite_btree.proofs.Results.{within_limit}

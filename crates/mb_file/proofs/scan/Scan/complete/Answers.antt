@@ -1,0 +1,11 @@
+use Rattle.std.proofs.Common.{rules, ◌∙◌}
+use Rattle.mb_file.proofs.ScanLemmas.{of_ok, rowids_of}
+use Rattle.mb_file.proofs.scan.Scan.complete.Goals as goal
+
+pub returns-then-is_err-clause-stands : goal.returns-then-is_err-clause-stands
+returns-then-is_err-clause-stands g c = λ trusted layout rows laid stored scan.
+    c.restart.ensures.stands (c.read_on-answer.ensures.kind ∙ rowids_of layout _ _ rows _ scan.among) layout _ _ _ _ _ rows stored scan.few
+
+pub returns-else-is_err-clause-stands : goal.returns-else-is_err-clause-stands
+returns-else-is_err-clause-stands g c = λ trusted layout rows laid stored scan.
+    of_ok _ c.read_on-answer.result (search rules) (c.read_on-answer.ensures.stands trusted layout rows laid stored scan)

@@ -1,0 +1,13 @@
+use Rattle.std.proofs.Common.{rules, ◌∙◌}
+use Rattle.mb_file.proofs.ScanLemmas.{of_done, of_failed, rowids_of}
+use Rattle.mb_file.proofs.scan.Scan.page.Goals as goal
+
+pub returns-then-is_err-clause-stands : goal.returns-then-is_err-clause-stands
+returns-then-is_err-clause-stands g c = λ trusted layout rows laid stored scan. (
+  c.restart.ensures.stands (c.rows-answer.ensures.kind ∙ rowids_of layout _ _ rows _ scan.among) layout _ _ _ _ _ rows stored scan.few,
+  of_failed _ c.rows-answer.result (search rules),
+)
+
+pub returns-else-is_err-clause-stands : goal.returns-else-is_err-clause-stands
+returns-else-is_err-clause-stands g c = λ trusted layout rows laid stored scan.
+    of_done _ _ c.rows-answer.result (search rules) (c.rows-answer.ensures.stands trusted layout rows laid stored scan)

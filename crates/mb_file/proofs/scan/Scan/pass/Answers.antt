@@ -1,0 +1,36 @@
+use Rattle.std.proofs.Common.{ap, arith, drop, rules, [], ◌+◌, ◌∙◌, ◌≡◌}
+use Rattle.mb_file.specs.Scan.{Goes}
+use Rattle.mb_file.proofs.ScanLemmas.{goes_none, goes_some, none_from, scans_then}
+use Rattle.mb_file.proofs.scan.Scan.pass.Goals as goal
+
+pub loop-init : goal.loop-init
+loop-init g c = record {
+  kind = search rules;
+  pages = search rules;
+  kept = search rules;
+  stands = λ trusted layout rows laid stored scan. (c.go_back.ensures.stands layout _ _ _ _ _ rows stored scan, search rules);
+}
+
+pub returns-then-is_none-clause-stands : goal.returns-then-is_none-clause-stands
+returns-then-is_none-clause-stands g c =
+    scans_then c.args.source.now.pages c.loop.source.pages c.next_row.new.source.pages c.args.of.now.root c.args.table c.args.of.now.columns c.loop.invariant.kept c.loop.invariant.pages
+    c.args.self.now c.loop.self (λ all. c.loop.self.position ≡ c.loop.counter) (λ Stands all. Stands c.next_row.new.self × Goes all c.loop.self.position c.next_row.new.self.position c.in_ok-next_row.field-0)
+    (λ Stands all. Stands c.next_row.new.self × (drop c.args.to all ≡ [])) c.next_row.ensures.kept c.loop.invariant.stands c.in_ok-next_row.ensures.stands
+    (λ Stands all at h. (h.0, none_from c.loop.self.position c.args.to all (goes_none all _ _ _ h.1 (search rules)).0 (omega (arith, at, c.loop-test.true))))
+
+pub loop-preserved : goal.loop-preserved
+loop-preserved g c = record {
+  kind = search rules;
+  pages = search rules;
+  kept = search rules;
+  stands =
+      scans_then c.args.source.now.pages c.loop.source.pages c.next_row.new.source.pages c.args.of.now.root c.args.table c.args.of.now.columns c.loop.invariant.kept c.loop.invariant.pages
+      c.args.self.now c.loop.self (λ all. c.loop.self.position ≡ c.loop.counter) (λ Stands all. Stands c.next_row.new.self × Goes all c.loop.self.position c.next_row.new.self.position c.in_ok-next_row.field-0)
+      (λ Stands all. Stands c.next_row.new.self × (c.next_row.new.self.position ≡ c.loop.counter + 1)) c.next_row.ensures.kept c.loop.invariant.stands c.in_ok-next_row.ensures.stands
+      (λ Stands all at h. (h.0, goes_some all _ _ _ h.1 (search rules) ∙ ap (λ n. n + 1) at));
+}
+
+pub returns-clause-stands : goal.returns-clause-stands
+returns-clause-stands g c = λ trusted layout rows laid stored scan.
+    let stand = c.loop.invariant.stands trusted layout rows laid stored scan in
+    (stand.0, omega (arith, stand.1, c.loop-test.false, c.loop.auto.counter-end, c.go_back.ensures.place))

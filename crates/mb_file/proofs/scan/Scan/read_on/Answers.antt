@@ -1,0 +1,24 @@
+use Rattle.std.proofs.Common.{rules}
+use Rattle.std.specs.Prelude.{⊤}
+use Rattle.mb_file.specs.Scan.{Goes}
+use Rattle.mb_file.proofs.ScanLemmas.{scans_then}
+use Rattle.mb_file.proofs.scan.Scan.read_on.Goals as goal
+
+pub returns-then-is_none-2-clause-stands : goal.returns-then-is_none-2-clause-stands
+returns-then-is_none-2-clause-stands g c =
+    scans_then c.args.source.now.pages c.rows.source.pages c.next_row.new.source.pages c.args.of.now.root c.args.table c.args.of.now.columns c.rows.invariant.kept c.rows.invariant.pages
+    c.args.self.now c.rows.self (λ all. ⊤) (λ Stands all. Stands c.next_row.new.self × Goes all c.rows.self.position c.next_row.new.self.position c.in_ok-next_row.field-0)
+    (λ Stands all. Stands c.next_row.new.self) c.next_row.ensures.kept (λ trusted layout rows laid stored scan. (c.rows.invariant.stands trusted layout rows laid stored scan, tt)) c.in_ok-next_row.ensures.stands
+    (λ Stands all _ h. h.0)
+
+pub rows-preserved : goal.rows-preserved
+rows-preserved g c = record {
+  kind = search rules;
+  pages = search rules;
+  kept = search rules;
+  stands =
+      scans_then c.args.source.now.pages c.rows.source.pages c.next_row.new.source.pages c.args.of.now.root c.args.table c.args.of.now.columns c.rows.invariant.kept c.rows.invariant.pages
+      c.args.self.now c.rows.self (λ all. ⊤) (λ Stands all. Stands c.next_row.new.self × Goes all c.rows.self.position c.next_row.new.self.position c.in_ok-next_row.field-0)
+      (λ Stands all. Stands c.next_row.new.self) c.next_row.ensures.kept (λ trusted layout rows laid stored scan. (c.rows.invariant.stands trusted layout rows laid stored scan, tt)) c.in_ok-next_row.ensures.stands
+      (λ Stands all _ h. h.0);
+}
