@@ -8,7 +8,7 @@ from models.bases import base_after, spelled as rows_of, words as words_of
 from models.scripts import defaults, parsed
 from models.sets import converted
 
-WAYS = {"memory": ["none", "streamed", "hashed", "whole", "owned"], "database": ["none", "streamed", "hashed", "whole"]}
+WAYS = {"memory": ["none", "streamed", "whole", "owned"], "database": ["none", "streamed", "whole"]}
 
 
 def place(number):

@@ -18,7 +18,6 @@ use tileset_script::ParsedScript;
 enum Way {
     None,
     Streamed,
-    Hashed,
     Whole,
     Owned,
 }
@@ -27,7 +26,6 @@ fn way_of(word: &str) -> Option<Way> {
     match word {
         "none" => Some(Way::None),
         "streamed" => Some(Way::Streamed),
-        "hashed" => Some(Way::Hashed),
         "whole" => Some(Way::Whole),
         "owned" => Some(Way::Owned),
         _ => None,
@@ -61,10 +59,9 @@ fn streamed<S: TileStore>(
     alloc: Global,
     store: &mut S,
     options: &ConvertOptions,
-    hash: bool,
 ) -> Result<ConvertReport, ConvertError> {
     let mut medium = FrontMedium::new(alloc);
-    let answer = convert_streamed(alloc, store, &[], options, hash, &mut medium);
+    let answer = convert_streamed(alloc, store, &[], options, false, &mut medium);
     whole(alloc, answer)
 }
 
@@ -98,8 +95,7 @@ fn answer_of<S: TileStore>(
 ) -> Option<()> {
     match way {
         Way::None => say_count(out, store),
-        Way::Streamed => said_end(alloc, out, streamed(alloc, store, options, false)),
-        Way::Hashed => said_end(alloc, out, streamed(alloc, store, options, true)),
+        Way::Streamed => said_end(alloc, out, streamed(alloc, store, options)),
         Way::Whole => said_end(alloc, out, converted(alloc, store, options)),
         Way::Owned => None,
     }
@@ -120,7 +116,7 @@ fn of_memory(
 }
 
 /// A case of a store, `memory` or `database`, the number of its tiles, how many words of 8 bytes the contents of each
-/// have, and how it is converted: `none`, `streamed`, `hashed`, `whole`, or `owned` of one in memory. What it counts.
+/// have, and how it is converted: `none`, `streamed`, `whole`, or `owned` of one in memory. What it counts.
 pub fn answer(alloc: Global, out: &mut String, fields: &mut Fields) -> Option<()> {
     let kind = fields.next();
     let count = fields.next().parse::<u32>().ok()?;
