@@ -1,7 +1,7 @@
 -- The archive of a part of tiles, beside that of all of them.
 use Rattle.tile_streaming.proofs.Common.{address, ap, Bool, cond, false, get, is_solid, List, None, none-some, Option, Place, refl, solid, Some, sym, TileSet, true, ℕ, ◌∙◌, ◌≡◌}
 use Rattle.std.proofs.Common.{if◌then◌else◌}
-use Rattle.mb_tables.proofs.TileLemmas.{places_total, get-solid}
+use Rattle.mb_tables.proofs.TileLemmas.{get-solid}
 use Rattle.pm_walk.specs.Intervals.{in_intervals}
 use Rattle.tile_bridge.specs.Convert.{HoldsExactly}
 use Rattle.tile_extract.specs.Part.{cut}
@@ -33,7 +33,7 @@ module _ (tiles : TileSet) (part : TilePart) where
     has bytes is =
         let found = held.only id bytes is in
         let p = found.0 in
-        by p (in_intervals (address p) part.intervals) refl (sym (solid_kept p) ∙ found.1.0) found.1.1
+        by p (in_intervals (address p) part.intervals) refl (sym (solid_kept p) ∙ found.1) found.2
       where
         by : (p : Place) (t : Bool) → in_intervals (address p) part.intervals ≡ t → cond t (get (solid tiles) p) None ≡ Some (Some bytes) → address p ≡ id → archive_map b id ≡ at (in_intervals id part.intervals)
         by p true lies there same =
@@ -51,9 +51,9 @@ module _ (tiles : TileSet) (part : TilePart) where
         by true lies (Some bytes) e =
             let found = whole.only id bytes e in
             let p = found.0 in
-            let in_it : inside part.intervals p ≡ true = ap (λ i. in_intervals i part.intervals) found.1.1 ∙ lies in
-            let there = solid_kept p ∙ ap (λ t. cond t (get (solid tiles) p) None) in_it ∙ found.1.0 in
-            absurd (none-some bytes (sym none ∙ ap (archive_map b) (sym found.1.1) ∙ held.each p bytes there))
+            let in_it : inside part.intervals p ≡ true = ap (λ i. in_intervals i part.intervals) found.2 ∙ lies in
+            let there = solid_kept p ∙ ap (λ t. cond t (get (solid tiles) p) None) in_it ∙ found.1 in
+            absurd (none-some bytes (sym none ∙ ap (archive_map b) (sym found.2) ∙ held.each p bytes there))
 
 pub cut_out : (tiles : TileSet) (part : TilePart) (whole own : List ℕ) → HoldsExactly whole tiles → HoldsExactly own (part_of (Some part.intervals) tiles) → (id : ℕ) → archive_map own id ≡ cut (archive_map whole) part id
 cut_out tiles part a b whole held id = by (archive_map b id) refl

@@ -1,6 +1,6 @@
 -- The part of a set that is converted, and a set that has a part.
-use Rattle.tile_streaming.proofs.Common.{address, ap, AreMarksOf, Bool, cond, entries, Equal, false, false≢true, filter, find_has, from_entries, get, get-entries, get-from_entries, Has, InRange, inl, inr, is_some, IsPermutation, IsPermutation-map, IsPermutation-sym, IsPermutation-trans, length, length_permutation, List, list_any, list_any-IsPermutation}
-use Rattle.tile_streaming.proofs.Common.{is_too_long, map, Mark, mark_of, nat_le, None, not, Option, option_or, overflow_of, Place, place_cmp, places_total, refl, Some, subst, sum_by, sum_by-IsPermutation, sym, TileSet, true, ℕ, [], ◌++◌, ◌^◌, ◌∙◌, ◌∷◌, ◌||◌, ◌≡◌}
+use Rattle.tile_streaming.proofs.Common.{address, ap, AreMarksOf, Bool, cond, entries, Equal, false, false≢true, filter, find_has, from_entries, get, get-entries, get-from_entries, Has, InRange, inl, inr, is_some, IsPermutation, IsPermutation-map, IsPermutation-sym, IsPermutation-trans, length_permutation, List, list_any-IsPermutation}
+use Rattle.tile_streaming.proofs.Common.{is_too_long, map, Mark, mark_of, nat_le, None, not, Option, option_or, overflow_of, Place, place_cmp, places_total, refl, Some, subst, sum_by-IsPermutation, sym, TileSet, true, ℕ, [], ◌++◌, ◌^◌, ◌∙◌, ◌∷◌, ◌||◌, ◌≡◌}
 use Rattle.mb_lists.proofs.Places.{places_antisymmetric}
 use Rattle.pm_walk.specs.Intervals.{in_intervals}
 use Rattle.std.proofs.lemmas.List.{map-append}

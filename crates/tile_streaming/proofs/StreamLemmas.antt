@@ -1,5 +1,5 @@
 -- What a conversion of marks answers and leaves.
-use Rattle.tile_streaming.proofs.Common.{adds_of, All, ap, ArchivePlaces, AreAddsOf, AreMarksOf, AreRead, as_report, Bool, CanBeWritten, ConvertError, ConvertOptions, Coord, entries, Err, false, false≢true, HasWritten, HasBytes, HaveLengths, HidesRest, IfSome, inl, inr, is_some, IsDue, IsEmpty, IsHeldOf, IsHeldWith, IsHidden, IsMarkedAs, IsOfRead, IsPlain, IsStored, length, List}
+use Rattle.tile_streaming.proofs.Common.{adds_of, All, ArchivePlaces, AreAddsOf, AreMarksOf, AreRead, as_report, Bool, CanBeWritten, ConvertError, ConvertOptions, Coord, entries, Err, false, false≢true, HasWritten, HasBytes, HaveLengths, HidesRest, IfSome, inl, inr, is_some, IsDue, IsEmpty, IsHeldOf, IsHeldWith, IsHidden, IsMarkedAs, IsOfRead, IsPlain, IsStored, length, List}
 use Rattle.tile_streaming.proofs.Common.{map, Mark, MarkedSet, None, Ok, Option, Options, OptionsFit, overflow_of, overflows, PartLeaves, PmtError, refl, Result, Rose, RoseAt, SetLeaves, Some, State, StepCauses, Stored, StreamCauses, StreamEnds, StreamError, StreamReport, subst, sym, tested_due, TileSet, true, WrittenLeaves, ℕ, [], ◌<◌, ◌^◌, ◌∙◌, ◌∷◌, ◌≡◌, ◌⊎◌}
 unfoldable use Rattle.tile_streaming.proofs.Common.{archive}
 use Rattle.pm_format.specs.LookUp.{archive_map}

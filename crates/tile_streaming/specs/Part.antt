@@ -4,6 +4,7 @@ use Rattle.std.specs.FinMap.{retain_keys}
 use Rattle.pm_walk.specs.Intervals.{in_intervals}
 use Rattle.tile_streaming.specs.Common.{address, TileSet}
 use Rattle.tile_streaming.specs.declared.mark.Mark.{Mark}
+use Rattle.tile_streaming.specs.declared.mark.MarkedSet.{MarkedSet}
 
 -- the tiles whose ids lie in intervals; without intervals all of them
 abbrev pub part_of : Option (List (ℕ × ℕ)) → TileSet → TileSet
@@ -18,3 +19,7 @@ lies intervals m = in_intervals m.id intervals
 abbrev pub marks_of_part : Option (List (ℕ × ℕ)) → List Mark → List Mark
 marks_of_part None marks = marks
 marks_of_part (Some intervals) marks = filter (lies intervals) marks
+
+-- those of a set of which marks are held
+abbrev pub part_in : Option (List (ℕ × ℕ)) → MarkedSet → List Mark
+part_in part m = marks_of_part part m.marks.items

@@ -1,19 +1,20 @@
 // The conversion of a set of which marks are held, and one content at a time.
-ghost use Rattle.std.specs.Prelude.{◌≡◌, ◌+◌, ◌∷◌, ◌||◌, [], ℕ, false, is_some, IfOk, IfSome, IsErrOf, List, Option, Result, unwrap_or};
+ghost use Rattle.std.specs.Prelude.{◌≡◌, ◌+◌, ◌∷◌, ◌||◌, [], ℕ, false, is_some, IfOk, IfSome, IsErrOf, List, MatchOption, Option, Result, unwrap_or};
 ghost use Rattle.tile_streaming.specs.Common.{answered, ConvertError, GrewFrom, IsEmpty, IsPlain, KeepsMedium, ReadsOnly, Rose, RoseAt, State};
 ghost use Rattle.tile_streaming.specs.Hashing.{IsHashOf, IsRight};
+ghost use Rattle.tile_streaming.specs.Part.{part_in};
 ghost use Rattle.tile_streaming.specs.PatchedSet.{stored_in};
 ghost use Rattle.tile_streaming.specs.Sizing.{overflow_of};
 ghost use Rattle.tile_streaming.specs.Stands.{MediumStands, StoresStand};
 ghost use Rattle.tile_streaming.specs.Streaming.{IsHeld, IsHeldOf, IsHeldWith, PartLeaves, StreamCauses, tested_due};
 
 use crate::error::of_reader;
-use crate::part::{chosen_marks, part_marks};
+use crate::part::part_marks;
 use crate::patched_set::PatchedSet;
 use crate::sizing::mark_overflows;
 use crate::verifying::hash_for;
-use crate::writing::write_marked;
-use crate::{StreamError, StreamOptions, StreamReport};
+use crate::writing::write_part;
+use crate::{Mark, StreamError, StreamOptions, StreamReport};
 use base_values::TextVal;
 use mb_store::TileStore;
 use pm_format::Medium;
@@ -29,12 +30,16 @@ fn convert_held<S: TileStore, M: Medium>(
     base: &mut S,
     set: &PatchedSet,
     part: &Option<IdIntervals>,
+    found: &Option<Vec<Mark>>,
     coords: &[TileCoord],
     asked: &ConvertOptions,
     writer: &PmTilesWriter,
     aggregate: Option<TextVal>,
     medium: &mut M,
 ) -> Result<StreamReport, StreamError>
+    requires kept { MatchOption found.now
+        (part_in part.now set.now.marked ≡ set.now.marked.marks.items)
+        (λ kept. part_in part.now set.now.marked ≡ kept.items) }
     requires held { IsHeld (S.tells base.old) (stored_in set.now (S.told base.old)) set.now.marked }
     requires right { IsRight asked.now.verify (S.tells base.old)
         (stored_in set.now (S.told base.old)) set.now.marked }
@@ -68,10 +73,8 @@ fn convert_held<S: TileStore, M: Medium>(
         (S.faults base.new ∷ patches) result }
     ensures medium_still { MediumStands (M.faults medium.old) (M.faults medium.new) result }
 {
-    let found = part_marks(alloc, part, &set.marked.marks)?;
-    let marks = chosen_marks(&found, &set.marked.marks);
     writer.fits();
-    let places = write_marked(alloc, base, set, marks, writer, medium)?;
+    let places = write_part(alloc, base, set, part, found, writer, medium)?;
     match read_answers(alloc, medium, coords) {
         Ok(answers) => Ok(StreamReport {
             answers,
@@ -140,8 +143,9 @@ fn convert_hashed<S: TileStore, O: StreamOptions, M: Medium>(
     let made = options.made_for_marked(alloc, &set.marked)?;
     let asked = options.asked();
     let writer = chosen(asked, &made);
+    let found = part_marks(alloc, part, set)?;
     convert_held(
-        alloc, base, set, part, coords, asked, writer, aggregate, medium,
+        alloc, base, set, part, &found, coords, asked, writer, aggregate, medium,
     )
 }
 

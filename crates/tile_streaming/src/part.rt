@@ -1,10 +1,11 @@
 // The part of a set that is converted: its tiles whose ids lie in intervals.
 ghost use Rattle.std.specs.Prelude.{◌≡◌, ◌++◌, ◌∷◌, [], cond, filter, IfOk, List, MatchOption, OnOk};
 ghost use Rattle.pm_walk.specs.Intervals.{in_intervals};
-ghost use Rattle.tile_streaming.specs.Part.{lies, marks_of_part};
+ghost use Rattle.tile_streaming.specs.Part.{lies, part_in};
 ghost use Rattle.tile_streaming.specs.declared.mark.Mark.{Mark};
 
 use crate::Mark;
+use crate::patched_set::PatchedSet;
 use base_values::OutOfMemory;
 use std::alloc::Global;
 use tile_extract::IdIntervals;
@@ -49,28 +50,29 @@ fn marks_in(
     Ok(kept)
 }
 
-/// The marks of a part: a list of its own for intervals, and none where all marks are.
+/// The marks of a part of a set: a list of their own for intervals, and none where they are all.
 pub(crate) fn part_marks(
     alloc: Global,
     part: &Option<IdIntervals>,
-    marks: &[Mark],
+    set: &PatchedSet,
 ) -> Result<Option<Vec<Mark>>, OutOfMemory>
-    ensures { IfOk result (λ found. MatchOption found (marks_of_part part.now marks.now ≡ marks.now)
-        (λ kept. marks_of_part part.now marks.now ≡ kept.items)) }
+    ensures { IfOk result (λ found. MatchOption found
+        (part_in part.now set.now.marked ≡ set.now.marked.marks.items)
+        (λ kept. part_in part.now set.now.marked ≡ kept.items)) }
 {
     match part {
-        Some(intervals) => Ok(Some(marks_in(alloc, intervals, marks)?)),
+        Some(intervals) => Ok(Some(marks_in(alloc, intervals, &set.marked.marks)?)),
         None => Ok(None),
     }
 }
 
-/// The marks of a list, or where there is none all of them.
-pub(crate) fn chosen_marks<'a>(found: &'a Option<Vec<Mark>>, all: &'a [Mark]) -> &'a [Mark]
-    ensures { (marks : List Mark) → MatchOption found.now (marks ≡ all.now)
+/// The marks of a list, or where there is none all those of a set.
+pub(crate) fn chosen_marks<'a>(found: &'a Option<Vec<Mark>>, set: &'a PatchedSet) -> &'a [Mark]
+    ensures { (marks : List Mark) → MatchOption found.now (marks ≡ set.now.marked.marks.items)
         (λ kept. marks ≡ kept.items) → result.now ≡ marks }
 {
     match found {
         Some(marks) => marks,
-        None => all,
+        None => &set.marked.marks,
     }
 }

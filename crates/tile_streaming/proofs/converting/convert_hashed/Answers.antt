@@ -45,5 +45,11 @@ returns-in_err-made-clause-base_still g c = λ patches. stores_anyway _ _ c.from
 pub returns-in_err-made-clause-medium_still : goal.returns-in_err-made-clause-medium_still
 returns-in_err-made-clause-medium_still g c = medium_anyway _ _ c.from_residual.result refl
 
+pub returns-in_err-found-clause-base_still : goal.returns-in_err-found-clause-base_still
+returns-in_err-found-clause-base_still g c = λ patches. stores_anyway _ _ c.from_residual-in_err-found.result refl
+
+pub returns-in_err-found-clause-medium_still : goal.returns-in_err-found-clause-medium_still
+returns-in_err-found-clause-medium_still g c = medium_anyway _ _ c.from_residual-in_err-found.result refl
+
 pub returns-clause-base_still : goal.returns-clause-base_still
 returns-clause-base_still g c = c.convert_held.ensures.base_still

@@ -1,7 +1,7 @@
-use Rattle.tile_streaming.proofs.Common.{arith, length-map, List, StreamCauses, StreamLeaves, subst, [], ap, ◌∙◌}
+use Rattle.tile_streaming.proofs.Common.{List, StreamCauses, StreamLeaves, subst, ap, ◌∙◌}
 use Rattle.mb_store.specs.MemStore.{told_of}
 use Rattle.mb_store.specs.declared.mem_store.MemStore.{MemStore}
-use Rattle.std.proofs.Common.{length, map, true}
+use Rattle.std.proofs.Common.{length, true}
 use Rattle.tile_bridge.proofs.FoldLemmas.{as_long}
 use Rattle.tile_bridge.specs.Outcome.{due}
 use Rattle.tile_streaming.proofs.ResolveLemmas.{none_left, rose_alone}
