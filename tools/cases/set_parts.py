@@ -94,6 +94,21 @@ def unsought():
             changing(script, sought + 1, None, "0||1", part)
 
 
+def asks_for_parts():
+    """Words that name a part, once, by numbers of which there is one."""
+    top = str(2 ** 31 - 1)
+    for words, ids in [(["0", "0", "0"], below(0, 0, 0)), (["1", "1", "0"], below(1, 1, 0)), (["2", "3", "0"], below(2, 3, 0)), (["31", top, top], below(31, 2 ** 31 - 1, 2 ** 31 - 1))]:
+        case(["asked", " ".join(["--part", *words, "a", "b"])], f"ids {spelled(ids)} 2")
+    case(["asked", "--force a --part 1 0 1 --hash b c"], f"force hash ids {spelled(below(1, 0, 1))} 3")
+    for first, last in [(0, 0), (0, 20), (5, 5), (7, LAST), (LAST, LAST)]:
+        case(["asked", f"a --ids {first} {last} b"], f"ids {first}-{last} 2")
+    for words in ["--part 1 2 0 a b", "--part 1 0 2 a b", "--part 32 0 0 a b", "--part 256 0 0 a b", "--part 31 4294967296 0 a b", "--part 1 0 a b", "a b --part 1 0", "a b --part", "--part -- a b",
+                  "--part 01 0 0 a b", "--part 1 +1 0 a b", "--ids 5 4 a b", f"--ids 0 {LAST + 1} a b", f"--ids {LAST + 1} {LAST + 1} a b", "--ids 0 a b", "a b --ids 0", "a b --ids", "--ids 0 -- a b",
+                  "--ids 0 1 --ids 2 3 a b", "--part 0 0 0 --ids 2 3 a b", "--ids 2 3 --part 0 0 0 a b", "--ids 0 1 a", "--part 0 0 0 a", "--parts 0 0 0 a b", "--id 0 1 a b"]:
+        case(["asked", words], "none")
+    case(["asked", "a -- --part 0 0 0"], "5")
+
+
 def parts():
     """Parts of sets of every layout, with patches and without: none, all, random ones, and those of a partition."""
     rng = random.Random(69)
@@ -116,3 +131,4 @@ def parts():
     streamed(one, b"a", part="0-0")
     streamed("option internal-compression gzip\n" + one, part="0-0")
     unsought()
+    asks_for_parts()

@@ -6,7 +6,8 @@ use crate::stores::{Options, converted, options_of, say_store, script_of};
 use base_values::{BlobVal, TextVal};
 use pm_format::MemMedium;
 use set_conversion::{
-    ConversionFlags, ConversionOutcome, asked_of, conversion_status, conversion_text,
+    ConversionFlags, ConversionOutcome, SetPart, asked_of, conversion_status, conversion_text,
+    part_intervals,
 };
 use std::alloc::Global;
 use std::fmt::Write;
@@ -120,8 +121,25 @@ pub fn answer(
     shown(alloc, out, script, options, MemMedium::from_bytes(held))
 }
 
-// Appends flags by their names, and the number of files.
-fn say_asked(out: &mut String, flags: ConversionFlags, files: &[TextVal]) -> Option<()> {
+// Appends the ids of a part, where it isn't the whole set.
+fn say_part(alloc: Global, out: &mut String, part: SetPart) -> Option<()> {
+    let Some(intervals) = part_intervals(alloc, part).ok()? else {
+        return Some(());
+    };
+    say(out, "ids ")?;
+    for (first, last) in intervals.as_slice() {
+        write!(out, "{first}-{last} ").ok()?;
+    }
+    Some(())
+}
+
+// Appends flags by their names, the ids of a part, and the number of files.
+fn say_asked(
+    alloc: Global,
+    out: &mut String,
+    flags: ConversionFlags,
+    files: &[TextVal],
+) -> Option<()> {
     let names = [
         ("force", flags.force),
         ("verify", flags.verify),
@@ -134,15 +152,16 @@ fn say_asked(out: &mut String, flags: ConversionFlags, files: &[TextVal]) -> Opt
             write!(out, "{name} ").ok()?;
         }
     }
+    say_part(alloc, out, flags.part)?;
     let count = files.len();
     write!(out, "{count}").ok()
 }
 
-/// A case of words: the flags and how many files they ask for, or that it is nothing.
+/// A case of words: the flags, the ids of a part and how many files they ask for, or that it is nothing.
 pub fn asked(alloc: Global, out: &mut String, fields: &mut Fields) -> Option<()> {
     let words = words_of(alloc, fields.next())?;
     match asked_of(alloc, &words).ok()? {
-        Some((flags, files)) => say_asked(out, flags, files.as_slice()),
+        Some((flags, files)) => say_asked(alloc, out, flags, files.as_slice()),
         None => say(out, "none"),
     }
 }
