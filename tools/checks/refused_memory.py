@@ -48,8 +48,9 @@ class Apart(list):
     """Pieces that are run without the others of their row."""
 
 
-# Lines of a program, as pieces of its stdin: the front of a line, how many lines before the first that begins so a
-# piece begins, and how many lines it has; or such lists of pieces, each of which is run alone. Behind them the calls that are tried.
+# Lines of a program, as pieces of its stdin: the front of a line, how many lines before the first that begins
+# so a piece begins, and how many lines it has; or such lists of pieces, each of which is run alone. Behind them
+# the calls that are tried.
 LINES = {
     'copied_into_an_empty_destination': ('copy_rows', [('src new flat 1 tiles i0 i0 i0 x30', 0, 8)], 'MbtilesCopier::run'),
     'imported_and_back': ('import_rows', [('hold x504d54696c6573037f0000', 0, 10)], 'import convert'),

@@ -19,7 +19,7 @@ import specs
 from calls import CRATES, SHARED, TOP, calls_of, crate_names, errors, libraries, sources, text
 
 # Calls of a crate by whose name a program calls one of another crate.
-OTHERS = {('import_rows', 'mb_metadata', 'get_metadata')}
+OTHERS = {('import_rows', 'mb_metadata', 'get_metadata'), ('tileset_rows', 'pm_contents', 'put')}
 BEGIN, END = '<!-- tables: tools/checks/safety_table.py -->', '<!-- end of the tables -->'
 
 

@@ -9,7 +9,7 @@ use tile_extract::ExtractError;
 use tile_join::JoinError;
 
 /// The status for a set that isn't read: 3 where there is none, 4 where its file can't be read, 10 where it is in a
-/// form that isn't read, 7 for want of memory,
+/// form that isn't read, 7 for lack of memory,
 /// and 1 for the others.
 pub fn read_status(error: &ReadError) -> u8
     ensures { result ≡ read_status error.now }
@@ -24,7 +24,7 @@ pub fn read_status(error: &ReadError) -> u8
     }
 }
 
-/// The status for a refusal of a call on a set: 6 where its store or a tree of files failed, 7 for want of memory,
+/// The status for a refusal of a call on a set: 6 where its store or a tree of files failed, 7 for lack of memory,
 /// and 1 for the others.
 pub fn set_status(error: &MbtError) -> u8
     ensures { result ≡ set_status error.now }
@@ -36,7 +36,7 @@ pub fn set_status(error: &MbtError) -> u8
     }
 }
 
-/// The status for a refusal of an archive: 4 where its bytes can't be read, 7 for want of memory, and 1 for the others.
+/// The status for a refusal of an archive: 4 where its bytes can't be read, 7 for lack of memory, and 1 for the others.
 pub fn source_status(error: &PmtError) -> u8
     ensures { result ≡ source_status error.now }
 {
@@ -60,7 +60,7 @@ pub fn part_status(error: &ExtractError) -> u8
     }
 }
 
-/// The status for archives that aren't joined: 6 where the file that is written failed, 7 for want of memory, that of
+/// The status for archives that aren't joined: 6 where the file that is written failed, 7 for lack of memory, that of
 /// the refusal of a source, and 1 for the others.
 pub fn join_status(error: &JoinError) -> u8
     ensures { result ≡ join_status error.now }

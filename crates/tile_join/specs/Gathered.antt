@@ -75,7 +75,7 @@ gathered_from most k g (b ∷ bs) = chain (found most k b) (λ f. gathered_from 
 abbrev pub gathered : ℕ → List (List ℕ) → Result Gathered JoinError
 gathered most bs = gathered_from most 0 none_yet bs
 
--- Over told bytes: a refusal is the one that is due. A fault and want of memory may come in its place, and a wrong
+-- Over told bytes: a refusal is the one that is due. A fault and lack of memory may come in its place, and a wrong
 -- number of bytes never does.
 abbrev pub Refuses : {A : Type 0} → Result A JoinError → JoinError → Type 0
 Refuses due (Archive k (errors.Reading causes.Fault)) = Unit {0}

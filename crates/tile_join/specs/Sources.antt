@@ -36,7 +36,7 @@ pub record AreOnlyRead {B V : Type 0} (tells : B → Option (List ℕ)) (texts :
   pub calm : All steady old → All steady new × (map failed new ≡ map failed old)
 
 -- An error leaves their counts of faults as they are, but for that of the source that it is of, at a fault of it, and
--- for want of memory.
+-- for lack of memory.
 abbrev pub SourcesStandAt : List ℕ → List ℕ → JoinError → Type 0
 SourcesStandAt before now (Archive k e) = OthersStand k before now × StandsAtError (slice_index before k) (slice_index now k) e
 SourcesStandAt before now OutOfMemory = Unit {0}
@@ -46,7 +46,7 @@ abbrev pub SourcesStand : {A : Type 0} → List ℕ → List ℕ → Result A Jo
 SourcesStand before now (Ok x) = now ≡ before
 SourcesStand before now (Err e) = SourcesStandAt before now e
 
--- and that of the medium, but for a fault of the medium and want of memory
+-- and that of the medium, but for a fault of the medium and lack of memory
 abbrev pub MediumStandsAt : ℕ → ℕ → JoinError → Type 0
 MediumStandsAt before now MediumFault = Unit {0}
 MediumStandsAt before now OutOfMemory = Unit {0}

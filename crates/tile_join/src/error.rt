@@ -16,7 +16,7 @@ pub enum JoinError {
     #[error("medium not empty {length}")]
     MediumNotEmpty { length: u64 },
     /// The source with this number doesn't open, or the last one has no metadata, or a directory or a tile of this
-    /// source is refused: why. It is never want of memory.
+    /// source is refused: why. It is never `OutOfMemory`.
     #[error("source {source}: {error}")]
     Archive { source: u64, error: PmtError },
     /// The source with this number labels its tiles otherwise than the last one, by their type or their compression.

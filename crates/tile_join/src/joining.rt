@@ -70,8 +70,9 @@ fn join_into<B: Backend, M: Medium>(
     }
 }
 
-/// Writes to an empty medium the archive of several archives, the later ones over the earlier ones: at each id it has
-/// the tile of the last source that has one. An archive has no empty tiles, so that none is taken away.
+/// Writes to an empty medium the archive of several archives, the later ones over the earlier ones: at each
+/// id it has the tile of the last source that has one. An archive has no empty tiles, so a source can't
+/// remove a tile of an earlier one.
 ///
 /// It says beside its tiles what the last source says, its metadata included, but for zooms and bounds: the least
 /// and the greatest zoom of all sources, and the box around all their bounds. All sources have to label their tiles

@@ -12,9 +12,9 @@ pub fn parts_joined()
         → ArePartsOf map bs parts → Cover map parts → (id : ℕ) → joined bs id ≡ map id }
 {}
 
-/// Where these archives also say the same of themselves, with directories labelled `None` and leaves of the usual number
-/// of entries, what a join of them leaves is the one archive of that map which says it: the bytes that a conversion of
-/// all tiles writes, where each of them is that of a part.
+/// Where these archives also say the same of themselves, with directories labelled `None` and leaves of the usual
+/// number of entries, what a join of them leaves is the one archive of that map which says it: the bytes that a
+/// conversion of all tiles writes, where each of them is that of a part.
 pub fn parts_make_the_whole()
     ensures { (o : Options) (tiles : FinMap nat_cmp (List ℕ)) (bs : List (List ℕ))
         (parts : List TilePart) (most : ℕ) (b : List ℕ) → AreUsual o → AreWith o bs

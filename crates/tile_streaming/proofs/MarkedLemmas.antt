@@ -73,7 +73,7 @@ own_marked layout ds d tells told r m =
     let t = made ds layout m.metadata m.contents m.rows in
     (t, marked_by layout t d m.metadata m.contents m.rows refl (made_contents ds layout m.metadata m.contents m.rows m.contents_are.none) (made_rows ds layout m.metadata m.contents m.rows) r m.due)
 
--- want of memory, or a store that failed, is due of any tables
+-- lack of memory, or a store that failed, is due of any tables
 pub free_from : (layout : MbtType) (tells : Bool) (told : Tables) (r : Result MarkedSet MbtError) (e : MbtError) → r ≡ Err e → is_free e ≡ true → AreMarkedFrom layout tells told r
 free_from layout tells told r e is free = record {
   metadata = told.rows Metadata;

@@ -75,7 +75,7 @@ IsHashRefusal tells stored m AggHashValueNotFound = stored_hash m ≡ None
 IsHashRefusal tells stored m (AggHashMismatch computed named) = (stored_hash m ≡ Some named) × (bytes_eq named computed ≡ false) × IsHashOf tells stored m computed
 IsHashRefusal tells stored m _ = ⊥
 
--- Why there is no hash: a fault of the store, only where its count rose, want of memory, a store that changed and tells
+-- Why there is no hash: a fault of the store, only where its count rose, lack of memory, a store that changed and tells
 -- nothing, or where the hash is to be verified, its refusal.
 abbrev pub HashCauses : {A : Type 0} → Bool → Bool → Stored → MarkedSet → ℕ → ℕ → Result A StreamError → Type 0
 HashCauses verify tells stored m store store_now (Ok _) = Unit {0}

@@ -22,7 +22,7 @@ abbrev pub StoresStand : {A : Type 0} → List ℕ → List ℕ → Result A Str
 StoresStand before now (Ok x) = now ≡ before
 StoresStand before now (Err e) = StoresStandAt before now e
 
--- the same of the base alone, once it is read: it stands, but where it is refused or fails, and for want of memory
+-- the same of the base alone, once it is read: it stands, but where it is refused or fails, and for lack of memory
 abbrev pub BaseStandsAt : ℕ → ℕ → StreamError → Type 0
 BaseStandsAt before now (Convert (Store place e)) = Unit {0}
 BaseStandsAt before now (Convert (StoreFault place)) = Unit {0}

@@ -21,7 +21,7 @@ due_of tells told base o = due tells told tells told base [] o
 abbrev pub as_report : StreamReport → ConvertReport
 as_report r = record { answers = r.answers; aggregate = unwrap_or r.aggregate []; places = r.places }
 
--- the answer in these words; what a changed store leaves is what want of memory leaves
+-- the answer in these words; what a changed store leaves is what lack of memory leaves
 abbrev pub as_convert : Result StreamReport StreamError → Result ConvertReport ConvertError
 as_convert (Ok r) = Ok (as_report r)
 as_convert (Err (Convert e)) = Err e

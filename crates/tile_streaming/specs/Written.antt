@@ -11,7 +11,7 @@ use Rattle.tile_streaming.specs.declared.error.StreamError.{StreamError}
 use Rattle.tile_streaming.specs.declared.error.StreamError.TheVariants.{Convert, StoreChanged}
 use Rattle.tile_streaming.specs.declared.mark.Mark.{Mark}
 
--- why a row isn't found: a fault of the store, only where its count rose, want of memory, or what
+-- why a row isn't found: a fault of the store, only where its count rose, lack of memory, or what
 -- is said of a changed store
 abbrev pub FindCauses : {A : Type 0} → Type 0 → ℕ → ℕ → Result A StreamError → Type 0
 FindCauses changed store store_now (Ok _) = Unit {0}
@@ -20,7 +20,7 @@ FindCauses changed store store_now (Err (Convert (StoreFault place))) = (place �
 FindCauses changed store store_now (Err (Convert OutOfMemory)) = Unit {0}
 FindCauses changed store store_now (Err (Convert _)) = ⊥
 
--- why bytes aren't added: a fault of the medium, only where its count rose, or want of memory
+-- why bytes aren't added: a fault of the medium, only where its count rose, or lack of memory
 abbrev pub AddsCauses : {A : Type 0} → ℕ → ℕ → Result A StreamError → Type 0
 AddsCauses medium medium_now (Ok _) = Unit {0}
 AddsCauses medium medium_now (Err (Convert MediumFault)) = Rose medium medium_now
@@ -31,7 +31,7 @@ AddsCauses medium medium_now (Err _) = ⊥
 abbrev pub IsChanged : Bool → Stored → Mark → Type 0
 IsChanged tells stored m = tells ≡ true → IfSome (stored m.id) (λ bytes. fits m bytes ≡ false)
 
--- Why a step ends: a fault of the store or of the medium, only where its count rose, want of memory,
+-- Why a step ends: a fault of the store or of the medium, only where its count rose, lack of memory,
 -- or a store that changed.
 abbrev pub StepCauses : {A : Type 0} → Type 0 → ℕ → ℕ → ℕ → ℕ → Result A StreamError → Type 0
 StepCauses changed store store_now medium medium_now (Ok _) = Unit {0}

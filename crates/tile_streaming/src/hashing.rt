@@ -105,7 +105,7 @@ fn hash_spots<S: TileStore>(
 /// more memory than the longest, beside 16 bytes for each tile.
 ///
 /// A fault comes only where the store's count of faults rose, and `StoreChanged` only over a store that tells nothing;
-/// no other refusal comes but want of memory.
+/// no other refusal comes but lack of memory.
 pub(crate) fn hash_marked<S: TileStore>(
     alloc: Global,
     store: &mut S,

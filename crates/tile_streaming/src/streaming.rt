@@ -81,8 +81,9 @@ fn convert_tested<S: TileStore, P: TileStore, O: StreamOptions, M: Medium>(
     }
 }
 
-/// Converts a part of a base and its patches to an archive, as `convert_patched` converts all of it, and reads the tiles
-/// at the coordinates from it. The part is the tiles whose ids lie in intervals, or without intervals all of them.
+/// Converts a part of a base and its patches to an archive, as `convert_patched` converts all of it, and
+/// reads the tiles at the coordinates from it. The part is the tiles whose ids lie in intervals, or
+/// without intervals all of them.
 ///
 /// The whole set is read and tested, and its options, its hash and each refusal are those of the whole. Only the tiles
 /// that are written, and so the places, are those of the part. The contents of the others aren't read again, but where

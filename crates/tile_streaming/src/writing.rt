@@ -166,7 +166,7 @@ fn write_marked<S: TileStore, M: Medium>(
 /// `found` are the marks of the part, where they aren't all.
 ///
 /// A fault comes only where the count of faults of the store or of the medium rose, and `StoreChanged` only over a
-/// store that tells nothing; no other refusal comes but want of memory. After each of them no part of an archive is
+/// store that tells nothing; no other refusal comes but lack of memory. After each of them no part of an archive is
 /// shown.
 pub(crate) fn write_part<S: TileStore, M: Medium>(
     alloc: Global,

@@ -22,7 +22,8 @@ fn place_of(number: u32) -> (u8, u32, u32) {
     (10 + (number % 6) as u8, rest % 1024, rest / 1024 % 1024)
 }
 
-// The contents of a number, of so many words of 8 bytes. No two of at least one are equal: the first word is the number.
+// The contents of a number, of so many words of 8 bytes. No two of at least one are equal: the
+// first word is the number.
 fn contents_of(alloc: Global, number: u32, words: u32) -> Option<Vec<u8>> {
     let mut bytes = Vec::with_capacity(alloc, words as usize * 8).ok()?;
     let mut word = u64::from(number);
