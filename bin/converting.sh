@@ -45,18 +45,23 @@ trap 'exit 130' INT
 trap 'exit 131' QUIT
 trap 'exit 143' TERM
 
-# bytes_to_read FILE.. OUT: how many bytes the program reads of sets. A set without patches is read three times, page by
-# page, and once more for the hash. With patches a file above the 8 MiB that the program keeps is read five times while
-# it is opened, and once for its rows.
+# bytes_of FILE: how many it has
+bytes_of() {
+    stat -Lc %s "$1" 2>/dev/null || echo 0
+}
+
+# bytes_to_read FILE.. OUT: how many bytes the program reads of sets. The base is read three times, page by page, the
+# third time its part alone where one is asked for, and once more for the hash, which is also made where there are
+# patches. The file of a patch above the 8 MiB that the program keeps is read five times while it is opened, and once
+# for its rows.
 bytes_to_read() {
-    bytes=0
-    [ $# -gt 2 ] || {
-        size=$(stat -Lc %s "$1" 2>/dev/null) || size=0
-        echo $(((${hash:-$verify} + 3) * size))
-        return 0
-    }
+    times=3
+    [ -z "$part" ] || times=2
+    [ -z "$hash$verify" ] && [ $# -le 2 ] || times=$((times + 1))
+    bytes=$((times * $(bytes_of "$1")))
+    shift
     while [ $# -gt 1 ]; do
-        size=$(stat -Lc %s "$1" 2>/dev/null) || size=0
+        size=$(bytes_of "$1")
         [ "$size" -le 8388608 ] || size=$((6 * size))
         bytes=$((bytes + size))
         shift
@@ -83,7 +88,8 @@ follow() {
 # convert FILE..: runs the program, and sets `ended` to its status
 convert() {
     expected=$(bytes_to_read "$@")
-    set -- ${force:+--force} ${verify:+--verify} ${hash:+--hash} ${overwrite:+--overwrite} ${strict:+--strict} -- "$@"
+    set -- ${force:+--force} ${verify:+--verify} ${hash:+--hash} ${overwrite:+--overwrite} ${strict:+--strict} \
+        ${part:+"$part" "$first" "$second"} ${third:+"$third"} -- "$@"
     # where it is installed the program stands beside this script
     if [ -x "$here/mbtiles_to_pmtiles_program" ]; then
         "$here/mbtiles_to_pmtiles_program" "$@" &

@@ -9,7 +9,7 @@ _fatyngu_options() {
     copy) echo --copy --mbtiles-type --on-duplicate --min-zoom --max-zoom --zoom-levels --hash-algorithm --box --bbox --apply-patch --force --skip-agg-tiles-hash --validate ;;
     patch) echo --force ;;
     pack | unpack) echo --scheme ;;
-    convert) echo --force --verify --hash --overwrite --strict --by-script ;;
+    convert) echo --force --verify --hash --overwrite --strict --by-script --part --ids ;;
     plain) echo --overwrite --no-verify ;;
     join) echo --overwrite --max-tiles ;;
     extract) echo --bbox --tile --minzoom --maxzoom --overwrite --max-tiles ;;

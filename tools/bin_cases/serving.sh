@@ -185,13 +185,18 @@ for stream in '>&-' '>/dev/full'; do
 done
 ends
 
+# the subcommands of the help text
+subcommands() {
+    "$bin/fatyngu" --help | sed '1,/^$/d; /^$/,$d; s/  .*//' | grep -o '^[a-z][a-z]*\|, [a-z][a-z]* ' | tr -d ', ' | sort -u
+}
+
 fresh 'what is installed'
 run "$bin/install" "$t/prefix"
 status 0
 for words in 'the commands in .*prefix/bin: ' 'the page of fatyngu serve --http in ' '[0-9]* pages of the manual in .*prefix/share/man/man1$' 'the completion for bash in '; do
     says "$words"
 done
-for name in fatyngu fatyngu-serve fatyngu-show fatyngu-meta-get fatyngu-convert tile_verify mbtiles-script; do
+for name in fatyngu tile_verify mbtiles-script $(subcommands | sed 's/^/fatyngu-/; s/-meta$/-meta-get/'); do
     holds [ -s "prefix/share/man/man1/$name.1" ]
 done
 holds [ -z "$(find prefix -name '*.help' -o -name '*.new')" ]
@@ -227,9 +232,8 @@ COMPLETED
 completed() { bash completed "$bin/fatyngu.bash" fatyngu "$@"; }
 run completed ''
 # each subcommand of the help text, and no other
-"$fatyngu" --help | sed '1,/^$/d; /^$/,$d; s/  .*//' | grep -o '^[a-z][a-z]*\|, [a-z][a-z]* ' | tr -d ', ' | sort -u >subcommands
-holds [ "$(grep -v '^--' out | sort)" = "$(cat subcommands)" ]
-for name in $(cat subcommands) 'meta get' 'meta set' 'meta all'; do
+holds [ "$(grep -v '^--' out | sort)" = "$(subcommands)" ]
+for name in $(subcommands) 'meta get' 'meta set' 'meta all'; do
     # each option of its help text, and no other
     [ "$name" != meta ] || continue
     # shellcheck disable=SC2086

@@ -54,6 +54,12 @@ def across_pages():
             yield text("option force", store("base", layout, tiles), store("patch", "flat", put), queries)
 
 
+def three_patches():
+    """A base with patches of the forms that the chains don't have."""
+    forms = ["normalized", "dedup-id", "cache"]
+    return text("option force", store("base", "flat", {(0, 0, 0): b"0", (1, 0, 0): b"11"}), *(store("patch", form, {(3, at, 1): b"put", (1, 0, 0) if at == 1 else (2, at, 0): None}) for at, form in enumerate(forms)), "query 1 0 0")
+
+
 def changing_bases():
     """A base that changes meanwhile: of it those tiles are sought that the patches leave."""
     changed = f"1|refused: StoreFault {2 ** 64 - 1}"
@@ -71,24 +77,48 @@ def changing_bases():
             changing(script, 1, (1, 1, 1), "0||1")
             changing(script, 1, (1, 0, 0), f"{changed}|0")
             changing(script, len(order) + 1, None, "0||1")
+            changing_hashed_base(script, order)
+    # contents that may collide with those of a patch are held, so that no row is sought again
+    for layout in ("normalized", "normalized-with-view"):
+        changing(text("option force", store("base", layout, tiles), first, "query 0 0 0"), 1, None, "0||1")
+
+
+def changing_hashed_base(script, order):
+    """The same where the hash is verified: first each of those tiles, which are of different zooms, is sought by its place,
+    and then by its id."""
+    changed = f"1|refused: StoreFault {2 ** 64 - 1}"
+    state = converted(parsed(script.encode()).stores, True, False)
+    at = script.rindex("patch flat\n") + len("patch flat\n")
+    script = "option verify\n" + script[:at] + text(named(agg_tiles_hash_after_apply=state.aggregate())) + script[at:]
+    for number, own in enumerate([*sorted(order), *sorted(order)], 1):
+        label = "none" if number <= len(order) else "0"
+        changing(script, number, None, f"{changed}|{label}")
+        changing(script, number, (3, 0, 0), f"{changed}|{label}")
+        changing(script, number, own, "0||1")
+    changing(script, 2 * len(order) + 1, None, "0||1")
 
 
 def patched_streams():
     """All of these, the patches of every script so far, and each call of the objects failing in turn."""
-    scripts = [*SCRIPTS, *worked_patches(), *refused_patches(), *four_ways(), *random_chains(26, 150), *chains(), *across_pages()]
+    scripts = [*SCRIPTS, *worked_patches(), *refused_patches(), *four_ways(), *random_chains(24, 80), *random_chains(26, 150), *chains(), *across_pages()]
     for script in with_patches(scripts):
         streamed(script)
     for script in with_patches([*worked_patches(), *chains(), *random_chains(27, 60)]):
         streamed(script, name="hashed")
     for script in with_patches(verified_chains()):
         streamed(script)
-    for script in with_patches([*says_of_itself(), *worked_patches(), *refused_patches(), *random_chains(28, 60)]):
+    for script in with_patches([*says_of_itself(), *worked_patches(), *refused_patches(), *four_ways(), *random_chains(25, 40), *random_chains(28, 60)]):
         streamed(script, name="streamed-said")
     streamed(removes_the_tile(), b"c")
     for script in [removes_the_tile(), *four_ways(), *list(chains())[::5]]:
         if base_after(parsed(script.encode()))[0] is None:
             hindered(script, "hindered-streamed")
             hindered(script, "hindered-streamed-said")
+    # a patch of each form, and none of a store with a hash to be verified is left out
+    for script in [three_patches(), *list(chains())[::18]]:
+        if base_after(parsed(script.encode()))[0] is None:
+            hindered(script, "hindered-hashed")
+    hindered(three_patches(), "hindered-streamed")
     for script in list(verified_chains())[::16]:
         if base_after(parsed(script.encode()))[0] is None:
             hindered(script, "hindered-streamed")

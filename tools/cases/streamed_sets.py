@@ -58,15 +58,20 @@ def says_of_itself():
         yield text(flags, *wrong)
 
 
-def streamed(script, held=b"", name="streamed"):
+def lies(number, part):
+    """Whether an id lies in a part, as it is spelled."""
+    return part == "all" or any(first <= number <= last for first, last in (map(int, word.split("-")) for word in part.split()))
+
+
+def streamed(script, held=b"", name="streamed", part=None):
     """A conversion that holds no contents of a script's base: what the archive and the answers are, and the hash of all
     tiles where it is verified, or wanted for itself (`hashed`). The options are the script's, or those that the set says
-    of itself."""
+    of itself. Of a part (intervals of ids as they are spelled, `all` for all of them) the archive has the tiles alone."""
     by_itself = name == "streamed-said"
     script = script.encode() if isinstance(script, str) else script
     given = parsed(script)
     rows = rows_of(words_of(given.stores[0]), escaped)
-    fields = [name, escaped(script), held.hex()]
+    fields = [*([] if part is None else ["part"]), name, *([] if part is None else [part]), escaped(script), held.hex()]
     if held:
         return case(fields, f"1|refused: medium not empty {len(held)}|{rows}|{len(held)}|{shown(held, 64)}")
     if given.options["internal-compression"] != 1 and not by_itself:
@@ -74,7 +79,7 @@ def streamed(script, held=b"", name="streamed"):
     state = converted(given.stores, given.options["force"], given.options["verify"])
     if isinstance(state, bytes):
         return case(fields, f"1|{shown(b'refused: ' + state, 4000)}|{rows}|0|")
-    adds = adds_of(state.tiles)
+    adds = [it for it in adds_of(state.tiles) if part is None or lies(it[0], part)]
     whole, numbers = archive(options_said(state) if by_itself else given.options, adds)
     found, numbers = dict(adds), dict(numbers)
     answers = [found.get(tile_id(z, x, y)) for z, x, y in given.queries]
@@ -85,10 +90,10 @@ def streamed(script, held=b"", name="streamed"):
     case(fields, f"{tiles}|0|{shown(text.encode(), 4000)}|{rows}|{len(whole)}|{shown(whole, 64)}")
 
 
-def changing(script, number, other, wanted):
+def changing(script, number, other, wanted, part=None):
     """A conversion of a store that shows another row, or none, where one is sought a second time: that of a place, or of an
     id of contents."""
-    case(["changing", escaped(script.encode()), str(number), *(map(str, other or []))], wanted)
+    case([*(["changing"] if part is None else ["changing-part", part]), escaped(script.encode()), str(number), *(map(str, other or []))], wanted)
 
 
 def streams():

@@ -14,7 +14,10 @@ from cases.archives_again import adds_of, archive, tile_id
 from cases.rows import TOP
 from cases.set_scripts import (bad_rows, four_ways, QUERY, random_chains, refused_patches, refused_sets, removes_the_tile, verified_sets,
                                worked_patches, worked_sets)
+from cases.measured_sets import again, measured
+from cases.odd_streams import odd_streams
 from cases.patched_streams import patched_streams
+from cases.set_parts import parts
 from cases.streamed_sets import across_pages, hashes, options_said, says_of_itself, streams, streams_by_itself, told
 from cases.tileset_runs import ACROSS_ZOOMS, bad, base, case, CASES, escaped, FILE, FIVE, hindered, NO_TILE, ONE_TILE, run, shown, turned, views
 from cases.tileset_scripts import BAD_LINES, files, good_scripts, many_rows, many_tiles, media, on_file, other_objects, random_scripts, words_and_bulk
@@ -129,6 +132,10 @@ def main():
     says()
     streams_by_itself()
     patched_streams()
+    parts()
+    again()
+    odd_streams()
+    measured()
     asks()
     many_tiles()
     on_file()

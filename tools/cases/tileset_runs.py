@@ -143,7 +143,7 @@ def views(words, script, ids):
 TURNED = 16386
 
 
-def turned(script):
+def turned(script, name="turned"):
     """What is read back of the archive, a byte of which is read with all its bits turned over."""
     given = parsed(script.encode())
     state = converted(given.stores, given.options["force"], given.options["verify"])
@@ -154,4 +154,4 @@ def turned(script):
             at += len(content)
     found = {number: bytes(byte ^ 255 if offsets[content] + k == TURNED else byte for k, byte in enumerate(content)) for number, content in adds}
     answers = [found.get(tile_id(z, x, y)) for z, x, y in given.queries]
-    case(["turned", escaped(script.encode())], "".join("none " if it is None else it.hex() + " " for it in answers))
+    case([name, escaped(script.encode())], "".join("none " if it is None else it.hex() + " " for it in answers))

@@ -10,6 +10,7 @@ must print what the committed stdout has, and its calls for memory are counted. 
 - one line is answered `OutOfMemory`, or ends in `refused` where the program's own words or printing found no memory (`refused`), and all lines behind it are answered as they are
   had that line not been there, had it been done, or, where it makes the tables of a new set, had it made these alone; or
 - that line writes an archive: where it isn't finished, whatever opens it behind that line is refused, and nothing is said of its bytes; where an add alone was refused, nothing is said of what is read of the rest; or
+- that line converts twice over the same stores: one conversion is refused and shows no archive or all of it, the other one is done, and the rows of all stores stand; or
 - that line is one of the program's own, by which it makes or fills an object before the calls that are tried (`unmade`): nothing is said of the lines behind it; or
 - the program stops because it can't read or print a line, with status 1 (`stopped`), and what it printed until then is a front of that.
 
@@ -21,6 +22,7 @@ The programs are those of `rt try`, with checks of all accesses to memory, kept 
 the repository. The table of docs/SAFETY.md is what this prints.
 """
 import os
+import re
 import shutil
 import signal
 import subprocess
@@ -32,8 +34,22 @@ TOP = os.path.dirname(os.path.dirname(os.path.dirname(os.path.abspath(__file__))
 SECONDS = 60
 WORKERS = 4
 
+LAYOUTS = ['flat', 'flat-with-hash', 'normalized', 'normalized-with-view', 'dedup-id', 'cache']
+PATCHED = LAYOUTS[:4]
+
+
+def twice(words, layouts):
+    """A line of tileset_rows for each layout, each of them apart: what one of them makes is no other's."""
+    front = f'twice|{words}' + '\\n' * (not words.endswith('|'))
+    return [Apart([(f'{front}base {layout}\\n', 0, 1)]) for layout in layouts]
+
+
+class Apart(list):
+    """Pieces that are run without the others of their row."""
+
+
 # Lines of a program, as pieces of its stdin: the front of a line, how many lines before the first that begins so a
-# piece begins, and how many lines it has. Behind them the calls that are tried.
+# piece begins, and how many lines it has; or such lists of pieces, each of which is run alone. Behind them the calls that are tried.
 LINES = {
     'copied_into_an_empty_destination': ('copy_rows', [('src new flat 1 tiles i0 i0 i0 x30', 0, 8)], 'MbtilesCopier::run'),
     'imported_and_back': ('import_rows', [('hold x504d54696c6573037f0000', 0, 10)], 'import convert'),
@@ -58,6 +74,10 @@ LINES = {
     'written_and_read': ('archive_rows', [('read none part header', 13, 20)],
                          'PmTilesWriter::create PmTilesStreamWriter::add_raw_tile PmTilesStreamWriter::finalize PmTilesReader::try_from_source PmTilesReader::get_tile PmTilesReader::get_metadata '
                          'PmTilesReader::parse_tilejson ReaderState::parse_tilejson'),
+    'streamed_from_each_layout': ('tileset_rows', twice('streamed|option verify', LAYOUTS), 'convert_streamed read_marks'),
+    'streamed_as_each_says': ('tileset_rows', twice('streamed-said|option verify', LAYOUTS), 'convert_streamed read_marks StreamOptions::made_for_marked'),
+    'patched_from_each_layout': ('tileset_rows', twice('hashed|', PATCHED), 'convert_patched read_marks'),
+    'patched_as_each_says': ('tileset_rows', twice('streamed-said|', PATCHED), 'convert_patched read_marks StreamOptions::made_for_marked'),
     'served': ('archive_rows', [('serve lines 4 100', 1, 2)], 'TileServer::open TileServer::answer'),
     'extracted': ('archive_rows', [('extract from 0 run 0', 1, 4)], 'run_extract extract'),
 }
@@ -150,6 +170,21 @@ def is_own(line):
     return words[0] in (b'hold', b'fresh', b'push') or words[1:2] in ([b'new'], [b'none'], [b'push'], [b'add'], [b'fill'], [b'hold'], [b'fail'], [b'with'])
 
 
+def is_left(wanted, said, from_on):
+    """Whether a line that converts twice over the same stores answers as it may where memory is refused. One conversion
+    is refused, and its medium shows no archive, or the whole one if that was written; the other is done, and what all
+    stores hold stands. Where all calls from one on are refused, both may be. Where there is no memory for the line
+    itself, it is cut off."""
+    words = wanted.decode().split('|')
+    assert words[:5] == words[5:10] and words[2] == '1'
+    archive = '|'.join(words[2:5])
+    done, rows = f'0||{archive}|', '|'.join(words[10:])
+    refused = [f'1|refused: OutOfMemory|{shown}|' for shown in ('none', '0', archive)]
+    ends = [first + second for first in (done, *refused) for second in (done, *refused) if from_on or done in (first, second)]
+    answer, cut = re.subn('refused$', '', said.decode())
+    return any(said.decode() == end + rows or cut and (end + rows).startswith(answer) for end in ends)
+
+
 def is_half(asked, said):
     """Whether lines behind a refused one that writes an archive are as they may be: what opens it is refused, and of
     its bytes, which the writer leaves as its contract says, nothing is said."""
@@ -159,7 +194,7 @@ def is_half(asked, said):
 class Lines:
     """Lines of a program of rows."""
 
-    def __init__(self, program, pieces, _):
+    def __init__(self, program, pieces):
         self.program = program
         with open(f'{TOP}/crates/{program.name}/stdin', 'rb') as stdin, open(f'{TOP}/crates/{program.name}/stdout', 'rb') as stdout:
             asked, said = stdin.read().splitlines(), stdout.read().splitlines()
@@ -201,6 +236,8 @@ class Lines:
             return 'answer' if status == 0 else 'stopped'
         if not is_refusal(said[at]):
             return f'wrong: line {at + 1}: {said[at][:200]!r}'
+        if self.asked[at].startswith(b'twice|') and not is_left(self.wanted[at], said[at], from_on):
+            return f'wrong: line {at + 1} leaves: {said[at][:200]!r}'
         if is_own(self.asked[at]):
             return 'unmade' if status == 0 else 'stopped'
         rest = said[at + 1:]
@@ -239,21 +276,36 @@ class Run:
         return f'wrong: status {status}: {said[-200:]!r}'
 
 
-def table(name, row):
-    calls, wrong = row.calls(), 0
-    cells = [name, row.program.name, str(calls)]
+def judged(name, row, calls, from_on):
+    """How each run is judged in which a call is refused."""
+    for n, run in enumerate(row.runs(calls, from_on), 1):
+        said = row.judged(run, from_on)
+        if said.startswith('wrong'):
+            print(f'{name}: call {n}{" and all behind it" if from_on else ""}: {said}', file=sys.stderr, flush=True)
+            said = 'wrong'
+        yield said
+
+
+def table(name, rows):
+    """A line of the table, of rows that are run apart."""
+    calls, wrong = [row.calls() for row in rows], 0
+    cells = [name, rows[0].program.name, str(sum(calls))]
     for from_on in (False, True):
         found = {}
-        for n, run in enumerate(row.runs(calls, from_on), 1):
-            said = row.judged(run, from_on)
-            if said.startswith('wrong'):
-                wrong += 1
-                print(f'{name}: call {n}{" and all behind it" if from_on else ""}: {said}', file=sys.stderr, flush=True)
-                said = 'wrong'
-            found[said] = found.get(said, 0) + 1
+        for row, number in zip(rows, calls):
+            for said in judged(name, row, number, from_on):
+                found[said] = found.get(said, 0) + 1
+        wrong += found.get('wrong', 0)
         cells.append(', '.join(f'{found[key]} {key}' for key in ('answer', 'refused', 'unmade', 'stopped', 'wrong') if key in found))
     print(f'| {" | ".join(cells)} |', flush=True)
     return wrong
+
+
+def rows_of(program, name):
+    if name in RUNS:
+        return [Run(program, *RUNS[name])]
+    pieces = LINES[name][1]
+    return [Lines(program, it) for it in (pieces if isinstance(pieces[0], Apart) else [pieces])]
 
 
 def main(words):
@@ -270,8 +322,7 @@ def main(words):
         of = 'tileset_program' if name in RUNS else LINES[name][0]
         if of not in programs:
             programs[of] = Program(of, build(of, built), shim)
-        row = Run(programs[of], *RUNS[name]) if name in RUNS else Lines(programs[of], *LINES[name][1:])
-        wrong += table(name, row)
+        wrong += table(name, rows_of(programs[of], name))
     print(f'{wrong} wrong')
     shutil.rmtree(folder)
     return 1 if wrong else 0

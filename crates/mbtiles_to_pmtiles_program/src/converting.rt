@@ -10,33 +10,91 @@ use program_words::{
     Beside, Put, Taken, are_one_file, begin_step, put_beside, put_over, remove_beside, take_beside,
     take_over,
 };
-use set_conversion::{ConversionFlags, ConversionOutcome, OptionsOfSet};
+use set_conversion::{ConversionFlags, ConversionOutcome, OptionsOfSet, SetPart, part_intervals};
 use std::fs;
 use tile_bridge::{ConvertReport, convert_owned};
-use tile_streaming::StreamReport;
+use tile_extract::IdIntervals;
+use tile_streaming::{StreamError, StreamReport, convert_part};
 
-// Reads the base and, unless they were read, the patches into memory, and converts them to a medium.
-fn convert_held(
+/// Whether the hash of all tiles is made: where it is asked for, and where patches are put on a set that is converted
+/// whole.
+pub fn is_hashed(flags: ConversionFlags, is_patched: bool) -> bool {
+    flags.hash || is_patched && flags.part == SetPart::Whole
+}
+
+// Reads the base and, unless they were read, the patches into memory.
+fn read_held(
     rt: &HostRuntime,
     flags: ConversionFlags,
     (first, rest): (&str, &[TextVal]),
     read: Option<Vec<MemStore>>,
-    medium: &mut FileMedium,
-) -> Result<StreamReport, ConversionOutcome> {
+) -> Result<(MemStore, Vec<MemStore>), ConversionOutcome> {
     let base = read_set(rt, first, flags.strict)?;
     let patches = match read {
         Some(patches) => patches,
         None => read_sets(rt, rest, flags.strict)?,
     };
-    let step = begin_step(rt, TOOL, "converting", first);
+    Ok((base, patches))
+}
+
+// The report of a conversion of stores in memory, where it is whole.
+fn convert_whole(
+    rt: &HostRuntime,
+    flags: ConversionFlags,
+    (base, patches): (MemStore, Vec<MemStore>),
+    medium: &mut FileMedium,
+) -> Result<StreamReport, ConversionOutcome> {
+    let is_hashed = flags.verify || is_hashed(flags, !patches.is_empty());
     let options = OptionsOfSet::new(flags.force, flags.verify);
     let report = convert_owned(rt.alloc(), base, patches, &[], &options, medium)?;
+    Ok(reported(report, is_hashed))
+}
+
+// The same of a part.
+fn convert_some(
+    rt: &HostRuntime,
+    (flags, part): (ConversionFlags, &Option<IdIntervals>),
+    (base, patches): (MemStore, Vec<MemStore>),
+    medium: &mut FileMedium,
+) -> Result<StreamReport, ConversionOutcome> {
+    let mut base = base;
+    let mut patches = patches;
+    let options = OptionsOfSet::new(flags.force, flags.verify);
+    match convert_part(
+        rt.alloc(),
+        &mut base,
+        &mut patches,
+        part,
+        &[],
+        &options,
+        flags.hash,
+        medium,
+    ) {
+        Ok(report) => Ok(report),
+        Err(StreamError::Convert(error)) => Err(ConversionOutcome::from(error)),
+        Err(StreamError::StoreChanged) => Err(ConversionOutcome::Unread),
+    }
+}
+
+// Converts stores that are read into memory to a medium.
+fn convert_held(
+    rt: &HostRuntime,
+    (flags, part): (ConversionFlags, &Option<IdIntervals>),
+    (first, rest): (&str, &[TextVal]),
+    read: Option<Vec<MemStore>>,
+    medium: &mut FileMedium,
+) -> Result<StreamReport, ConversionOutcome> {
+    let stores = read_held(rt, flags, (first, rest), read)?;
+    let step = begin_step(rt, TOOL, "converting", first);
+    let report = match part {
+        None => convert_whole(rt, flags, stores, medium)?,
+        Some(_) => convert_some(rt, (flags, part), stores, medium)?,
+    };
     if medium.flush().is_err() {
         return Err(ConversionOutcome::MediumFault);
     }
     step.end(rt, TOOL);
-    let is_hashed = flags.hash || flags.verify || !rest.is_empty();
-    Ok(reported(report, is_hashed))
+    Ok(report)
 }
 
 // The report with the hash where it is wanted.
@@ -67,10 +125,11 @@ fn convert_beside(
     let Ok(mut medium) = FileMedium::open(rt, beside) else {
         return Err(ConversionOutcome::MediumFault);
     };
+    let part = part_intervals(rt.alloc(), flags.part)?;
     let files = (first.as_str(), rest);
-    match convert_pages(rt, flags, files, &mut medium) {
+    match convert_pages(rt, (flags, &part), files, &mut medium) {
         Paged::Ended(answer) => answer,
-        Paged::Refused(patches) => convert_held(rt, flags, files, patches, &mut medium),
+        Paged::Refused(patches) => { convert_held(rt, (flags, &part), files, patches, &mut medium) }
     }
 }
 

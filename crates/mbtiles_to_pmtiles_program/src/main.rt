@@ -17,6 +17,7 @@ const HELP: &str = "Makes an archive of the PMTiles format of a set of map tiles
 file, and of patches to it.
 
 usage: mbtiles-to-pmtiles [--force] [--verify] [--hash] [--overwrite] [--strict]
+                          [--part Z X Y | --ids FIRST LAST]
                           BASE.mbtiles [PATCH.mbtiles ..] OUT.pmtiles
 
 Patches are put on the base in their order; no set's file is changed. Type and
@@ -37,13 +38,20 @@ memory, and so is a base whose file isn't understood page by page.
              stored and right; hashes of single tiles are always tested
 --hash       prints the aggregate hash of the tiles, which is also made where it is
              verified, and where there are patches
+--part       converts only a tile, by its zoom, column and row (counted from the
+             top), and all tiles below it
+--ids        converts only the tiles whose ids lie from FIRST to LAST, both of
+             which belong to them
 --overwrite  replaces OUT where it is there; without it that is refused
 --strict     refuses a set of which rows of tiles or metadata would be left out
 --           what follows are files, also where they begin with a dash
 --help, -h   prints this text
 --version    prints the version
 
-Flags may stand anywhere in front of --.
+Flags may stand anywhere in front of --. A part is read and tested with its whole
+set, and says of itself what the whole archive says: where each tile lies in one
+of some parts, joining their archives gives that of the whole set. The hash of a
+part is that of all tiles, and is made only with --hash or --verify.
 
 status: 0 done, 1 refused, 2 no command, 3 no such file or no set, 4 a set's
 file can't be read, 5 the lines can't be written, 6 OUT can't be written, 7 out
@@ -51,7 +59,7 @@ of memory, 9 read back, 10 a set's file is in a form that isn't read here
 ";
 
 const USAGE: &str =
-    "usage: mbtiles-to-pmtiles [--force] [--verify] [--hash] [--overwrite] [--strict] BASE.mbtiles [PATCH.mbtiles ..] OUT.pmtiles
+    "usage: mbtiles-to-pmtiles [--force] [--verify] [--hash] [--overwrite] [--strict] [--part Z X Y | --ids FIRST LAST] BASE.mbtiles [PATCH.mbtiles ..] OUT.pmtiles
 ";
 
 const VERSION: &str = "mbtiles-to-pmtiles 0.1.0\n";

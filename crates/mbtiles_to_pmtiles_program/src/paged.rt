@@ -1,5 +1,6 @@
 // A set is converted from the pages of its file, with one content of it in memory at a time. Patches are read before.
 use crate::TOOL;
+use crate::converting::is_hashed;
 use crate::left_out::say_left_out;
 use crate::reading::{read_sets, refuse_left_out};
 use base_values::TextVal;
@@ -9,7 +10,8 @@ use pm_format::{FileMedium, Medium};
 use program_words::begin_step;
 use set_conversion::{ConversionFlags, ConversionOutcome, OptionsOfSet};
 use tile_bridge::ConvertError;
-use tile_streaming::{StreamError, StreamReport, convert_patched};
+use tile_extract::IdIntervals;
+use tile_streaming::{StreamError, StreamReport, convert_part};
 
 /// What comes of a conversion from pages.
 #[derive(Drop)]
@@ -129,18 +131,19 @@ fn finish(
 // Converts the set of a file that is opened, and patches to it.
 fn convert_file(
     rt: &HostRuntime,
-    flags: ConversionFlags,
+    (flags, part): (ConversionFlags, &Option<IdIntervals>),
     path: &str,
     (file, patches): (&mut SetFile, &mut Vec<MemStore>),
     medium: &mut FileMedium,
 ) -> Result<StreamReport, Stop> {
     let step = begin_step(rt, TOOL, "converting", path);
     let options = OptionsOfSet::new(flags.force, flags.verify);
-    let is_hashed = flags.hash || !patches.is_empty();
-    match convert_patched(
+    let is_hashed = is_hashed(flags, !patches.is_empty());
+    match convert_part(
         rt.alloc(),
         &mut file.set,
         patches,
+        part,
         &[],
         &options,
         is_hashed,
@@ -160,7 +163,7 @@ fn convert_file(
 // Reads the patches to the set of a file that is opened, and converts it.
 fn convert_opened(
     rt: &HostRuntime,
-    flags: ConversionFlags,
+    (flags, part): (ConversionFlags, &Option<IdIntervals>),
     (path, rest): (&str, &[TextVal]),
     file: &mut SetFile,
     medium: &mut FileMedium,
@@ -169,18 +172,18 @@ fn convert_opened(
         Ok(patches) => patches,
         Err(outcome) => return Paged::Ended(Err(outcome)),
     };
-    match convert_file(rt, flags, path, (file, &mut patches), medium) {
+    match convert_file(rt, (flags, part), path, (file, &mut patches), medium) {
         Ok(report) => Paged::Ended(Ok(report)),
         Err(Stop::With(outcome)) => Paged::Ended(Err(outcome)),
         Err(Stop::Refused) => Paged::Refused(Some(patches)),
     }
 }
 
-/// Converts the set of a file, and patches in the other files to it, to an empty medium, which stays empty where that
-/// is refused.
+/// Converts a part of the set of a file, and of patches in the other files to it, to an empty medium, which stays empty
+/// where that is refused.
 pub fn convert_pages(
     rt: &HostRuntime,
-    flags: ConversionFlags,
+    (flags, part): (ConversionFlags, &Option<IdIntervals>),
     (path, rest): (&str, &[TextVal]),
     medium: &mut FileMedium,
 ) -> Paged {
@@ -188,7 +191,7 @@ pub fn convert_pages(
     match SetFile::open(rt, path) {
         Ok(mut file) => {
             step.end(rt, TOOL);
-            convert_opened(rt, flags, (path, rest), &mut file, medium)
+            convert_opened(rt, (flags, part), (path, rest), &mut file, medium)
         }
         Err(_) => Paged::Refused(None),
     }

@@ -2,3 +2,5 @@ pub mod Common
 pub mod Words
 pub mod Outcome
 pub mod SaidOptions
+pub mod Part
+pub mod PartWords

@@ -1,7 +1,12 @@
 -- What the words of a conversion of sets ask for.
 use Rattle.std.specs.Prelude.{◌≡◌, ℕ, Bool, true, false, List, [], ◌∷◌, ◌++◌, if◌then◌else◌, nat_eq, Option, Some, None, codes, refl}
-use Rattle.std.specs.Option.{option_and_then}
+use Rattle.std.specs.Option.{option_and_then, option_map}
 use Rattle.std.specs.Str.{bytes_eq}
+use Rattle.set_conversion.specs.PartWords.{after_number, is_number}
+use Rattle.set_conversion.specs.declared.part.SetPart.{SetPart}
+use Rattle.set_conversion.specs.declared.part.SetPart.TheVariants.{Whole, Below, Ids}
+use Rattle.set_conversion.specs.declared.part_words.Awaited.{Awaited}
+use Rattle.set_conversion.specs.declared.part_words.Awaited.TheVariants.{Any, Zoom, First}
 use Rattle.set_conversion.specs.declared.words.ConversionFlags.{ConversionFlags}
 
 -- flags, and files: that of the base, those of its patches in their order, and that of the archive
@@ -31,37 +36,61 @@ with_flag flags word =
     else (if bytes_eq word (codes "--overwrite") then Some (record flags { overwrite = true })
     else (if bytes_eq word (codes "--strict") then Some (record flags { strict = true }) else None))))
 
+-- whether no part is named
+abbrev pub is_whole : ConversionFlags → Bool
+is_whole flags = elim flags.part [ Whole ↦ true | Below root ↦ false | Ids first last ↦ false ]
+
+-- the numbers of a part stand behind its flag, of which there is one
+abbrev pub with_part : ConversionFlags → Awaited → Option (Awaited × ConversionFlags)
+with_part flags awaited = if is_whole flags then Some (awaited, flags) else None
+
+-- a flag, and what is read behind it
+abbrev pub with_word : ConversionFlags → List ℕ → Option (Awaited × ConversionFlags)
+with_word flags word =
+    if bytes_eq word (codes "--part") then with_part flags Zoom
+    else (if bytes_eq word (codes "--ids") then with_part flags First
+    else option_map (λ f. (Any, f)) (with_flag flags word))
+
+-- a number of a part, and what is read behind it
+abbrev pub with_number : Awaited → ConversionFlags → List ℕ → Option (Awaited × ConversionFlags)
+with_number awaited flags word = option_map (λ n. (n.0, record flags { part = n.1 })) (after_number awaited flags.part word)
+
 -- words as files, behind others
 abbrev pub with_files : List (List ℕ) → List (List ℕ) → List (List ℕ)
 with_files files [] = files
 with_files files (word ∷ words) = with_files (files ++ (word ∷ [])) words
 
+-- files behind all words, where no number is missing
+abbrev pub ended : Awaited → ConversionFlags → List (List ℕ) → Option Asked
+ended awaited flags files = if is_number awaited then None else enough flags files
+
 -- what words ask for that stand behind these flags and files: flags anywhere in front of `--`,
 -- and behind it files alone
-abbrev pub asked_after : ConversionFlags → List (List ℕ) → List (List ℕ) → Option Asked
-asked_after flags files [] = enough flags files
-asked_after flags files (word ∷ words) =
-    if bytes_eq word (codes "--") then enough flags (with_files files words)
-    else (if is_option word then option_and_then (λ f. asked_after f files words) (with_flag flags word)
-    else asked_after flags (files ++ (word ∷ [])) words)
+abbrev pub asked_after : Awaited → ConversionFlags → List (List ℕ) → List (List ℕ) → Option Asked
+asked_after awaited flags files [] = ended awaited flags files
+asked_after awaited flags files (word ∷ words) =
+    if is_number awaited then option_and_then (λ n. asked_after n.0 n.1 files words) (with_number awaited flags word)
+    else (if bytes_eq word (codes "--") then enough flags (with_files files words)
+    else (if is_option word then option_and_then (λ n. asked_after n.0 n.1 files words) (with_word flags word)
+    else asked_after Any flags (files ++ (word ∷ [])) words))
 
 abbrev pub no_flags : ConversionFlags
-no_flags = record { force = false; verify = false; hash = false; overwrite = false; strict = false }
+no_flags = record { force = false; verify = false; hash = false; overwrite = false; strict = false; part = Whole }
 
 -- flags in any order, in front of files, among them or behind, and two files at least
 abbrev pub asked_in : List (List ℕ) → Option Asked
-asked_in words = asked_after no_flags [] words
+asked_in words = asked_after Any no_flags [] words
 
 pub a_base_and_a_patch : asked_in (codes "--verify" ∷ codes "--force" ∷ codes "a" ∷ codes "b" ∷ codes "c" ∷ []) ≡
-    Some (asked (record { force = true; verify = true; hash = false; overwrite = false; strict = false }) (codes "a" ∷ codes "b" ∷ codes "c" ∷ []))
+    Some (asked (record { force = true; verify = true; hash = false; overwrite = false; strict = false; part = Whole }) (codes "a" ∷ codes "b" ∷ codes "c" ∷ []))
 a_base_and_a_patch = refl
 
 pub files_with_dashes : asked_in (codes "--overwrite" ∷ codes "--" ∷ codes "--force" ∷ codes "-b" ∷ []) ≡
-    Some (asked (record { force = false; verify = false; hash = false; overwrite = true; strict = false }) (codes "--force" ∷ codes "-b" ∷ []))
+    Some (asked (record { force = false; verify = false; hash = false; overwrite = true; strict = false; part = Whole }) (codes "--force" ∷ codes "-b" ∷ []))
 files_with_dashes = refl
 
 pub flags_behind_files : asked_in (codes "a" ∷ codes "--strict" ∷ codes "b" ∷ codes "--force" ∷ []) ≡
-    Some (asked (record { force = true; verify = false; hash = false; overwrite = false; strict = true }) (codes "a" ∷ codes "b" ∷ []))
+    Some (asked (record { force = true; verify = false; hash = false; overwrite = false; strict = true; part = Whole }) (codes "a" ∷ codes "b" ∷ []))
 flags_behind_files = refl
 
 pub a_lone_dash : asked_in (codes "a" ∷ codes "-" ∷ []) ≡ Some (asked no_flags (codes "a" ∷ codes "-" ∷ []))
@@ -75,3 +104,20 @@ no_such_flag = refl
 
 pub no_words : asked_in [] ≡ None
 no_words = refl
+
+pub a_subtree : asked_in (codes "--part" ∷ codes "2" ∷ codes "3" ∷ codes "0" ∷ codes "a" ∷ codes "b" ∷ []) ≡
+    Some (asked (record no_flags { part = Below (record { z = 2; x = 3; y = 0 }) }) (codes "a" ∷ codes "b" ∷ []))
+a_subtree = refl
+
+pub some_ids : asked_in (codes "a" ∷ codes "--ids" ∷ codes "0" ∷ codes "20" ∷ codes "b" ∷ []) ≡
+    Some (asked (record no_flags { part = Ids 0 20 }) (codes "a" ∷ codes "b" ∷ []))
+some_ids = refl
+
+pub no_such_tile : asked_in (codes "--part" ∷ codes "2" ∷ codes "4" ∷ codes "0" ∷ codes "a" ∷ codes "b" ∷ []) ≡ None
+no_such_tile = refl
+
+pub a_number_missing : asked_in (codes "a" ∷ codes "b" ∷ codes "--ids" ∷ codes "0" ∷ []) ≡ None
+a_number_missing = refl
+
+pub two_parts : asked_in (codes "--ids" ∷ codes "0" ∷ codes "4" ∷ codes "--ids" ∷ codes "5" ∷ codes "6" ∷ codes "a" ∷ codes "b" ∷ []) ≡ None
+two_parts = refl

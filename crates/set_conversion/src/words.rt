@@ -1,7 +1,9 @@
 // What the words of a conversion of sets ask for.
 ghost use Rattle.std.specs.Prelude.{◌≡◌, ◌≤◌, ◌++◌, ◌∷◌, [], length, None, Some, IfOk, IfSome, MatchOption};
-ghost use Rattle.set_conversion.specs.Words.{asked, asked_after, asked_in, enough, is_option, no_flags, with_flag, with_files};
+ghost use Rattle.set_conversion.specs.Words.{asked, asked_after, asked_in, ended, enough, is_option, is_whole, no_flags, with_files, with_flag, with_number, with_part, with_word};
 
+use crate::part::SetPart;
+use crate::part_words::{Awaited, after_number, is_number};
 use base_values::{OutOfMemory, TextVal};
 use std::alloc::Global;
 
@@ -18,6 +20,8 @@ pub struct ConversionFlags {
     pub overwrite: bool,
     /// Whether nothing that the set says may be left out of the archive.
     pub strict: bool,
+    /// Which tiles the archive has.
+    pub part: SetPart,
 }
 
 // Whether a word begins with a dash, and has more.
@@ -36,6 +40,7 @@ fn no_flags() -> ConversionFlags
         hash: false,
         overwrite: false,
         strict: false,
+        part: SetPart::Whole,
     }
 }
 
@@ -53,6 +58,51 @@ fn with_flag(flags: ConversionFlags, word: &str) -> Option<ConversionFlags>
         _ => return None,
     }
     Some(flags)
+}
+
+// Whether no part is named.
+fn is_whole(flags: ConversionFlags) -> bool
+    ensures { result ≡ is_whole flags }
+{
+    matches!(flags.part, SetPart::Whole)
+}
+
+// Flags before the numbers of a part, whose first number is read next; None where a part is named already.
+fn with_part(flags: ConversionFlags, awaited: Awaited) -> Option<(Awaited, ConversionFlags)>
+    ensures { result ≡ with_part flags awaited }
+{
+    if is_whole(flags) {
+        return Some((awaited, flags));
+    }
+    None
+}
+
+// Flags with one more, by its word, and what is read behind it; None for any other word.
+fn with_word(flags: ConversionFlags, word: &str) -> Option<(Awaited, ConversionFlags)>
+    ensures { result ≡ with_word flags word.now }
+{
+    match word {
+        "--part" => with_part(flags, Awaited::Zoom),
+        "--ids" => with_part(flags, Awaited::First),
+        _ => {
+            let flags = with_flag(flags, word)?;
+            Some((Awaited::Any, flags))
+        }
+    }
+}
+
+// Flags with a number of a part, and what is read behind it; None for another word.
+fn with_number(
+    awaited: Awaited,
+    flags: ConversionFlags,
+    word: &str,
+) -> Option<(Awaited, ConversionFlags)>
+    ensures { result ≡ with_number awaited flags word.now }
+{
+    let (next, part) = after_number(awaited, flags.part, word)?;
+    let mut flags = flags;
+    flags.part = part;
+    Some((next, flags))
 }
 
 // A file behind others.
@@ -96,41 +146,66 @@ fn enough(flags: ConversionFlags, files: Vec<TextVal>) -> Option<(ConversionFlag
     }
 }
 
+// Files behind all words, where no number is missing.
+fn ended(
+    awaited: Awaited,
+    flags: ConversionFlags,
+    files: Vec<TextVal>,
+) -> Option<(ConversionFlags, Vec<TextVal>)>
+    ensures value { MatchOption result (ended awaited flags files.items ≡ None)
+        (λ r. ended awaited flags files.items ≡ Some (asked r.0 r.1.items)) }
+    ensures files { IfSome result (λ r. 2 ≤ length r.1.items) }
+{
+    if is_number(awaited) {
+        return None;
+    }
+    enough(flags, files)
+}
+
 // What words ask for behind flags and files.
 fn asked_after(
     alloc: Global,
+    awaited: Awaited,
     flags: ConversionFlags,
     files: Vec<TextVal>,
     words: &[TextVal],
 ) -> Result<Option<(ConversionFlags, Vec<TextVal>)>, OutOfMemory>
     ensures value { IfOk result (λ r. MatchOption r
-        (asked_after flags files.items words.now ≡ None)
-        (λ a. asked_after flags files.items words.now ≡ Some (asked a.0 a.1.items))) }
+        (asked_after awaited flags files.items words.now ≡ None)
+        (λ a. asked_after awaited flags files.items words.now ≡ Some (asked a.0 a.1.items))) }
     ensures files { IfOk result (λ r. IfSome r (λ a. 2 ≤ length a.1.items)) }
 {
     let [word, rest @ ..] = words else {
-        return Ok(enough(flags, files));
+        return Ok(ended(awaited, flags, files));
     };
+    if is_number(awaited) {
+        return match with_number(awaited, flags, word.as_str()) {
+            Some((next, flags)) => asked_after(alloc, next, flags, files, rest),
+            None => Ok(None),
+        };
+    }
     match word.as_str() {
         "--" => {
             let files = with_files(alloc, files, rest)?;
             Ok(enough(flags, files))
         }
-        text if is_option(text.as_bytes()) => match with_flag(flags, text) {
-            Some(flags) => asked_after(alloc, flags, files, rest),
+        text if is_option(text.as_bytes()) => match with_word(flags, text) {
+            Some((next, flags)) => asked_after(alloc, next, flags, files, rest),
             None => Ok(None),
         },
         _ => {
             let files = with_file(alloc, files, word)?;
-            asked_after(alloc, flags, files, rest)
+            asked_after(alloc, Awaited::Any, flags, files, rest)
         }
     }
 }
 
 /// The flags and the files that words ask for: `--force`, `--verify`, `--hash`, `--overwrite` and `--strict` anywhere
 /// in front of `--`, and the file of the base, those of its patches in their order, and that of the archive. Words
-/// behind `--` are files, also where they begin with a dash, and a dash alone is one anywhere. None for other words:
-/// without two files at least, or where another word in front of `--` begins with a dash.
+/// behind `--` are files, also where they begin with a dash, and a dash alone is one anywhere. Of a part `--part` names
+/// the tile, by its zoom, column and row, or `--ids` the first and the last id, as the words behind it. None for other
+/// words: without two files at least, where another word in front of `--` begins with a dash, without the numbers of a
+/// part or for no tile, with ids that fall or are above the last one of zoom 31, and with two parts.
 pub fn asked_of(
     alloc: Global,
     words: &[TextVal],
@@ -139,5 +214,5 @@ pub fn asked_of(
         (λ a. asked_in words.now ≡ Some (asked a.0 a.1.items))) }
     ensures files { IfOk result (λ r. IfSome r (λ a. 2 ≤ length a.1.items)) }
 {
-    asked_after(alloc, no_flags(), Vec::new(alloc), words)
+    asked_after(alloc, Awaited::Any, no_flags(), Vec::new(alloc), words)
 }

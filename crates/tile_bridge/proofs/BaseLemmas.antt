@@ -1,5 +1,5 @@
 -- What a base holds after its patches.
-use Rattle.tile_bridge.proofs.Common.{all_held, all_patched, ap, AreStatesOf, AreToldBy, arith, at_place, Bool, Cell, cond, contains_key, ConvertOptions, empty, false, filter, fresh, get, get-empty}
+use Rattle.tile_bridge.proofs.Common.{all_held, all_patched, ap, AreStatesOf, AreToldBy, arith, at_place, Bool, Cell, cond, contains_key, ConvertOptions, false, filter, fresh, get, get-empty}
 use Rattle.tile_bridge.proofs.Common.{Held, inr, is_patched_at, is_patched_row, is_some, IsBaseAfter, IsBaseOf, IsBaseWith, IsHeldFrom, IsLoadedFrom, IsPatched, IsStored, length, List, NamesAlgorithm}
 use Rattle.tile_bridge.proofs.Common.{nat_eq, nat_tests, None, not, Ok, Option, option_and_then, option_map_or, outcome, Place, place_cmp, place_of, refl, Some, stands_in, State, state_of, subst, suc}
 use Rattle.tile_bridge.proofs.Common.{sym, Tables, tested, then, true, ℕ, [], ◌||◌, ◌∙◌, ◌∷◌, ◌≡◌}

@@ -20,7 +20,7 @@ pub use Rattle.std.proofs.Common.{nat_le, None, not, Ok, Option, refl, Result, r
 pub use Rattle.std.proofs.Common.{◌≡◌, ◌≢◌, ◌≤◌, ◌⊎◌}
 pub use Rattle.std.proofs.lemmas.Bool.{and_from, and_parts, false≢true}
 pub use Rattle.std.proofs.lemmas.Bool.Decides.{nat_tests}
-pub use Rattle.std.proofs.lemmas.List.{drop_all, drop_more, get_or-map, get_or-set_same, length-map, length-set, map-append, map-set, take_all, take_more}
+pub use Rattle.std.proofs.lemmas.List.{drop_all, drop_more, get_or-map, get_or-set_other, get_or-set_same, length-map, length-set, map-append, map-set, take_all, take_more}
 pub use Rattle.std.proofs.lemmas.List.Elements.{All-append, All-cons, All-get_or, All-head, All-nil, All-set, All-tail, filter_map-append}
 pub use Rattle.std.proofs.lemmas.List.Sorted.{All-permutation, Contains-permutation, IsNonDecreasingBy-from_sort_by_key, IsPermutation-map, IsPermutation-sym, length_permutation, sum_by-IsPermutation}
 pub use Rattle.std.proofs.lemmas.List.Sums.{sum_by-cons}
@@ -46,8 +46,9 @@ pub use Rattle.tile_bridge.specs.Outcome.{all_patched, at_place, due, one_patche
 pub use Rattle.tile_bridge.specs.Patching.{all_held, AreStatesOf, AreToldBy, has_place, HoldsState, is_patched_at, is_patched_row, IsBaseWith, IsHeldFrom, IsPatched, IsPatchedBy, IsPatchedByAll}
 pub use Rattle.tile_bridge.specs.Patching.{IsStored, rows_put}
 pub use Rattle.tile_bridge.specs.ReadingBack.{answered, answered_by, GivesTile, GrewFrom, IsHindered, of_read_error, ReadBackCauses, ReadsAnswers}
+pub use Rattle.tile_bridge.specs.Stands.{IsAt, MediumStands, MediumStandsAt, OthersStand, StoresStand, StoresStandAt}
 pub use Rattle.tile_bridge.specs.Stores.{AreOnlyRead, due_at, due_patch, due_patches, HasFailed, IsDue, IsRefused, IsStoreError, NoneFell, refusal_at, Refuses, RoseAt}
-pub use Rattle.tile_bridge.specs.Writing.{CanBeWritten, WriteCauses}
+pub use Rattle.tile_bridge.specs.Writing.{CanBeWritten, of_write_error, WriteCauses}
 pub use Rattle.tile_bridge.specs.declared.adds.Add.{Add}
 pub use Rattle.tile_bridge.specs.declared.error.ConvertError.{ConvertError}
 pub use Rattle.tile_bridge.specs.declared.error.ConvertError.TheVariants.{IndexEntryOverflow, MediumFault, OutOfMemory, ReadBack, Store, StoreFault}

@@ -1,11 +1,12 @@
 -- Patches one after another.
 use Rattle.tile_bridge.proofs.Common.{All-get_or, All-set, all_held, all_patched, and_parts, ap, AreOnlyRead, AreToldBy, arith, at_place, Bool, cond, ConvertError, drop, drop_all, drop_more}
-use Rattle.tile_bridge.proofs.Common.{due_patch, due_patches, Err, false, get_or, get_or-map, get_or-set_same, HasFailed, Held, held_patched, IfErr, IfSome, IndexEntryOverflow, IsDue, IsErrAnd}
+use Rattle.tile_bridge.proofs.Common.{due_patch, due_patches, Err, false, get_or, get_or-map, get_or-set_other, get_or-set_same, HasFailed, Held, held_patched, IfErr, IfSome, IndexEntryOverflow, IsAt, IsDue, IsErrAnd}
 use Rattle.tile_bridge.proofs.Common.{IsLoadedFrom, IsPatchedBy, IsPatchedByAll, IsRefused, length, length-map, length-set, List, list_all, map, map-append, map-set, NamesAlgorithm, None, NoneFell}
-use Rattle.tile_bridge.proofs.Common.{Ok, one_patched, Option, OutOfMemory, refl, Refuses, Result, Rose, RoseAt, set, slice_index, Some, State, state_of, step, Store, StoreFault, subst, suc, sym}
+use Rattle.tile_bridge.proofs.Common.{Ok, one_patched, Option, OthersStand, OutOfMemory, refl, Refuses, Result, Rose, RoseAt, set, slice_index, Some, State, state_of, step, Store, StoreFault, StoresStand, subst, suc, sym}
 use Rattle.tile_bridge.proofs.Common.{Tables, take, take_all, take_more, then, true, zero, ℕ, [], ◌++◌, ◌+◌, ◌<◌, ◌∙◌, ◌∷◌, ◌≡◌, ◌≤◌}
 use Rattle.std.proofs.Math.Seq.{map-set_same}
 use Rattle.mb_store.specs.Kept.{ReadsOnly}
+use Rattle.tile_bridge.proofs.StandsLemmas.{one_stands, stores_handed}
 
 -- all of these tell
 abbrev pub AllTell : List Bool → Type 0
@@ -158,6 +159,15 @@ module _ {P : Type 0} (tell : P → Bool) (tables : P → Tables) (failed : P �
   pub fault_after : {A : Type 0} (e : ConvertError) (r : Result A ConvertError) → ((p : ℕ) → e ≡ StoreFault p → (p ≡ n + 1) × Rose (failed x) (failed y)) → IsErrAnd r (λ z. z ≡ e) → (p : ℕ) → r ≡ Err (StoreFault p) → (k : ℕ) × (p ≡ suc k) × RoseAt k (map failed old) (map failed after)
   fault_after e (Ok z) fault is p at = absurd is
   fault_after e (Err z) fault is p at = let same : z ≡ StoreFault p = cc in let rose = fault p (sym is ∙ same) in (n, rose.0 ∙ sym (one_on n), rose_after rose.1)
+
+  -- the others' counts, where it is refused or fails
+  others_after : (first : ℕ) → OthersStand (n + 1) (first ∷ map failed old) (first ∷ map failed after)
+  others_after first zero other = refl
+  others_after first (suc k) other =
+      ap (λ counts. slice_index counts k) failed_after ∙ get_or-set_other (map failed now) n k (failed y) 0 (λ is. other (ap suc is ∙ one_on n)) ∙ ap (λ counts. slice_index counts k) so.still
+
+  pub stands_after : {A : Type 0} (e : ConvertError) (r : Result A ConvertError) → IsAt (n + 1) e → IsErrAnd r (λ z. z ≡ e) → (first : ℕ) → StoresStand (first ∷ map failed old) (first ∷ map failed after) r
+  stands_after e r at is first = stores_handed (first ∷ map failed old) (first ∷ map failed after) e r (one_stands (n + 1) (first ∷ map failed old) (first ∷ map failed after) e at (others_after first)) is
 
   at_tell : get_or (map tell old) n (tell x) ≡ tell x
   at_tell = ap (λ bs. get_or bs n (tell x)) (sym so.read.tells) ∙ get_or-map tell now n x (tell x) low ∙ ap tell (sym is)

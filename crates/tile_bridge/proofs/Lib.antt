@@ -12,5 +12,6 @@ pub mod PatchedRows
 pub mod ReadingBackLemmas
 pub mod ResolveLemmas
 pub mod SizeLemmas
+pub mod StandsLemmas
 pub mod StoreLemmas
 pub mod WritingLemmas

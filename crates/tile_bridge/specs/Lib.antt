@@ -6,5 +6,6 @@ pub mod Leaves
 pub mod Outcome
 pub mod Patching
 pub mod ReadingBack
+pub mod Stands
 pub mod Stores
 pub mod Writing

@@ -1,10 +1,11 @@
 // The conversion of a set.
-ghost use Rattle.std.specs.Prelude.{◌≡◌, ◌+◌, ◌∷◌, false, map, ℕ, IfOk, IsErrOf, OnOk};
+ghost use Rattle.std.specs.Prelude.{◌≡◌, ◌+◌, ◌∷◌, false, map, ℕ, IfOk, IsErrOf};
 ghost use Rattle.tile_bridge.specs.Common.{aggregate, Keeps, KeepsMedium, Rose};
 ghost use Rattle.tile_bridge.specs.Convert.{ConvertCauses, HasPlaces, IsEmpty, IsPlain, SetCauses, SetLeaves};
 ghost use Rattle.tile_bridge.specs.Leaves.{Leaves};
 ghost use Rattle.tile_bridge.specs.Outcome.{due, overflows};
 ghost use Rattle.tile_bridge.specs.ReadingBack.{GrewFrom, answered, of_read_error};
+ghost use Rattle.tile_bridge.specs.Stands.{MediumStands, StoresStand};
 ghost use Rattle.tile_bridge.specs.Stores.{AreOnlyRead, RoseAt};
 ghost use Rattle.tile_bridge.specs.Writing.{of_write_error};
 
@@ -66,7 +67,7 @@ pub(crate) fn convert_set<M: Medium>(
     ensures fault { IsErrOf result ConvertError.MediumFault
         → Rose (M.faults medium.old) (M.faults medium.new) }
     ensures kept { KeepsMedium M.told M.versions M.reads M.faults M.steady medium.old medium.new }
-    ensures still { OnOk result (M.faults medium.new ≡ M.faults medium.old) }
+    ensures still { MediumStands (M.faults medium.old) (M.faults medium.new) result }
 {
     let adds = make_adds(alloc, set)?;
     options.fits();
@@ -113,10 +114,9 @@ pub fn convert<S: TileStore, P: TileStore, O: ArchiveOptions, M: Medium>(
     ensures base_kept { Keeps S.tells S.faults S.steady base.old base.new }
     ensures medium_kept { KeepsMedium M.told M.versions M.reads M.faults M.steady
         medium.old medium.new }
-    ensures base_still { OnOk result (S.faults base.new ≡ S.faults base.old) }
-    ensures patches_still { OnOk result (map P.faults patches.new.items
-        ≡ map P.faults patches.old.items) }
-    ensures medium_still { OnOk result (M.faults medium.new ≡ M.faults medium.old) }
+    ensures stores_still { StoresStand (S.faults base.old ∷ map P.faults patches.old.items)
+        (S.faults base.new ∷ map P.faults patches.new.items) result }
+    ensures medium_still { MediumStands (M.faults medium.old) (M.faults medium.new) result }
 {
     let length = medium.len()?;
     if length != 0 {

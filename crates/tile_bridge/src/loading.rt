@@ -2,6 +2,7 @@
 ghost use Rattle.std.specs.Prelude.{◌≡◌, ◌≢◌, ℕ, true, Err, IfErr, IfOk, IsErrOf, Ok, OnOk};
 ghost use Rattle.tile_bridge.specs.Common.{IsLoadable, IsLoadedFrom, NamesAlgorithm, nothing_edited, ReadsOnly, Rose, state_of, told_of};
 ghost use Rattle.tile_bridge.specs.Patching.{HoldsState};
+ghost use Rattle.tile_bridge.specs.Stands.{IsAt};
 ghost use Rattle.tile_bridge.specs.Stores.{Refuses, due_at, refusal_at};
 
 use crate::ConvertError;
@@ -38,6 +39,7 @@ pub fn load_at<S: TileStore>(
     ensures whole { IfOk result (λ set. IsLoadable set.state) }
     ensures named { IfOk result (λ set. NamesAlgorithm set.state) }
     ensures kept { ReadsOnly S.told S.tells S.faults S.steady store.old store.new }
+    ensures placed { IfErr result (IsAt place) }
     ensures still { OnOk result (S.faults store.new ≡ S.faults store.old) }
     ensures fault { (p : ℕ) → IsErrOf result (ConvertError.StoreFault p)
         → (p ≡ place) × Rose (S.faults store.old) (S.faults store.new) }

@@ -1,10 +1,11 @@
 // The conversion of stores that are let go.
-ghost use Rattle.std.specs.Prelude.{◌≡◌, ◌+◌, map, ℕ, false, true, IfOk, IsErrOf, OnOk};
+ghost use Rattle.std.specs.Prelude.{◌≡◌, ◌+◌, map, ℕ, false, true, IfOk, IsErrOf};
 ghost use Rattle.tile_bridge.specs.Common.{KeepsMedium, Rose, told_of};
 ghost use Rattle.tile_bridge.specs.Convert.{ConvertCauses};
 ghost use Rattle.tile_bridge.specs.Leaves.{Leaves};
 ghost use Rattle.tile_bridge.specs.Outcome.{due};
 ghost use Rattle.tile_bridge.specs.ReadingBack.{GrewFrom, answered};
+ghost use Rattle.tile_bridge.specs.Stands.{MediumStands};
 ghost use Rattle.tile_bridge.specs.Stores.{HasFailed};
 
 use crate::conversion::convert_set;
@@ -43,7 +44,7 @@ pub fn convert_owned<P: TileStore + Drop, O: ArchiveOptions, M: Medium>(
         → Rose (M.faults medium.old) (M.faults medium.new) }
     ensures medium_kept { KeepsMedium M.told M.versions M.reads M.faults M.steady
         medium.old medium.new }
-    ensures medium_still { OnOk result (M.faults medium.new ≡ M.faults medium.old) }
+    ensures medium_still { MediumStands (M.faults medium.old) (M.faults medium.new) result }
 {
     let length = medium.len()?;
     if length != 0 {

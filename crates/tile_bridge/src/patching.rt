@@ -1,7 +1,8 @@
 // Patches of a base, one after another.
-ghost use Rattle.std.specs.Prelude.{◌≡◌, ℕ, suc, map, true, IfErr, IfOk, IsErrOf, OnErr, OnOk};
+ghost use Rattle.std.specs.Prelude.{◌≡◌, ◌∷◌, ℕ, suc, map, true, IfErr, IfOk, IsErrOf, OnErr, OnOk};
 ghost use Rattle.tile_bridge.specs.Common.{IsLoadedFrom, Keeps, NamesAlgorithm, ReadsOnly, Rose, Tables};
 ghost use Rattle.tile_bridge.specs.Patching.{IsPatchedBy, IsPatchedByAll, IsStored};
+ghost use Rattle.tile_bridge.specs.Stands.{IsAt, StoresStand};
 ghost use Rattle.tile_bridge.specs.Stores.{AreOnlyRead, IsDue, IsStoreError, Refuses, RoseAt, due_patch, due_patches};
 
 use crate::ConvertError;
@@ -27,6 +28,7 @@ fn patch_at<P: TileStore>(
     ensures loaded { (t : Tables) → IsLoadedFrom t set → NamesAlgorithm set.state
         → IfOk result (λ next. IsLoadedFrom t next × NamesAlgorithm next.state) }
     ensures kept { ReadsOnly P.told P.tells P.faults P.steady patch.old patch.new }
+    ensures placed { IfErr result (IsAt place) }
     ensures still { OnOk result (P.faults patch.new ≡ P.faults patch.old) }
     ensures fault { (p : ℕ) → IsErrOf result (ConvertError.StoreFault p)
         → (p ≡ place) × Rose (P.faults patch.old) (P.faults patch.new) }
@@ -55,8 +57,8 @@ pub(crate) fn patch_all<P: TileStore>(
         → IfOk result (λ set. IsLoadedFrom t set × NamesAlgorithm set.state) }
     ensures read { AreOnlyRead P.tells P.told P.faults P.steady
         patches.old.items patches.new.items }
-    ensures still { OnOk result (map P.faults patches.new.items
-        ≡ map P.faults patches.old.items) }
+    ensures still { (base : ℕ) → StoresStand (base ∷ map P.faults patches.old.items)
+        (base ∷ map P.faults patches.new.items) result }
     ensures fault { (p : ℕ) → IsErrOf result (ConvertError.StoreFault p)
         → (k : ℕ) × (p ≡ suc k) × RoseAt k (map P.faults patches.old.items)
         (map P.faults patches.new.items) }
@@ -81,6 +83,7 @@ pub(crate) fn store_patches<S: TileStore>(
         → OnOk result (IsStored patched set.now (S.told base.old) (S.told base.new)) }
     ensures refused { OnErr result (S.told base.new ≡ S.told base.old) }
     ensures causes { IfErr result IsStoreError }
+    ensures placed { IfErr result (IsAt 0) }
     ensures kept { Keeps S.tells S.faults S.steady base.old base.new }
     ensures still { OnOk result (S.faults base.new ≡ S.faults base.old) }
     ensures fault { (p : ℕ) → IsErrOf result (ConvertError.StoreFault p)

@@ -1,7 +1,8 @@
 // The tiles at coordinates, read from the archive that was written.
-ghost use Rattle.std.specs.Prelude.{◌≡◌, ◌≤◌, ◌+◌, true, IfSome, IfOk, OnOk};
+ghost use Rattle.std.specs.Prelude.{◌≡◌, ◌≤◌, ◌+◌, true, IfSome, IfOk};
 ghost use Rattle.byte_media.specs.Kept.{ReadsOnly};
 ghost use Rattle.tile_bridge.specs.Common.{filled, id_of, Options, WellFormed};
+ghost use Rattle.pm_format.specs.Faults.{FaultsStand};
 ghost use Rattle.pm_reader.specs.Answers.{LookUpCauses};
 ghost use Rattle.pm_reader.specs.Archives.{UsesOneLength};
 ghost use Rattle.pm_reader.specs.MapCaches.{held_in_map};
@@ -50,7 +51,7 @@ fn read_answer<B: Backend>(
         (answered_by tile)) }
     ensures counted { B.reads backend.old ≤ B.reads backend.new }
     ensures kept { ReadsOnly B.told B.versions B.faults B.steady backend.old backend.new }
-    ensures still { OnOk result (B.faults backend.new ≡ B.faults backend.old) }
+    ensures still { FaultsStand (B.faults backend.old) (B.faults backend.new) result }
 {
     let found = state.get_cached_tile(backend, cache, TileId::from(coord))?;
     Ok(filled_tile(alloc, found)?)
@@ -74,7 +75,7 @@ pub fn read_answers<B: Backend>(
         (answered answers + 1)) }
     ensures counted { B.reads backend.old ≤ B.reads backend.new }
     ensures kept { ReadsOnly B.told B.versions B.faults B.steady backend.old backend.new }
-    ensures still { OnOk result (B.faults backend.new ≡ B.faults backend.old) }
+    ensures still { FaultsStand (B.faults backend.old) (B.faults backend.new) result }
 {
     let state = ReaderState::open(alloc, backend)?;
     let mut cache = HashMapCache::new(alloc);

@@ -1,8 +1,9 @@
 // The set that is converted.
-ghost use Rattle.std.specs.Prelude.{◌≡◌, ◌≢◌, ◌∷◌, ℕ, cond, false, true, Err, IfErr, IfOk, IsErrOf, None, Ok, OnOk, Some, map};
+ghost use Rattle.std.specs.Prelude.{◌≡◌, ◌≢◌, ◌∷◌, ℕ, cond, false, true, Err, IfErr, IfOk, IsErrOf, None, Ok, Some, map};
 ghost use Rattle.tile_bridge.specs.Common.{aggregate, is_free, ReadsOnly, told_of};
 ghost use Rattle.tile_bridge.specs.Outcome.{due, overflows, tested, unverified};
 ghost use Rattle.tile_bridge.specs.Patching.{IsHeldFrom};
+ghost use Rattle.tile_bridge.specs.Stands.{StoresStand};
 ghost use Rattle.tile_bridge.specs.Stores.{AreOnlyRead, IsDue, Refuses, RoseAt};
 
 use crate::adds::is_overflow;
@@ -88,9 +89,8 @@ pub(crate) fn resolve<S: TileStore, P: TileStore>(
     ensures patches { AreOnlyRead P.tells P.told P.faults P.steady
         patches.old.items patches.new.items }
     ensures base_kept { ReadsOnly S.told S.tells S.faults S.steady base.old base.new }
-    ensures base_still { OnOk result (S.faults base.new ≡ S.faults base.old) }
-    ensures patches_still { OnOk result (map P.faults patches.new.items
-        ≡ map P.faults patches.old.items) }
+    ensures still { StoresStand (S.faults base.old ∷ map P.faults patches.old.items)
+        (S.faults base.new ∷ map P.faults patches.new.items) result }
     ensures fault { (p : ℕ) → IsErrOf result (ConvertError.StoreFault p)
         → RoseAt p (S.faults base.old ∷ map P.faults patches.old.items)
         (S.faults base.new ∷ map P.faults patches.new.items) }
@@ -117,8 +117,8 @@ pub(crate) fn resolve_owned<P: TileStore>(
         patches.old.items options.now)) }
     ensures patches { AreOnlyRead P.tells P.told P.faults P.steady
         patches.old.items patches.new.items }
-    ensures patches_still { OnOk result (map P.faults patches.new.items
-        ≡ map P.faults patches.old.items) }
+    ensures still { StoresStand (0 ∷ map P.faults patches.old.items)
+        (0 ∷ map P.faults patches.new.items) result }
     ensures fault { (p : ℕ) → IsErrOf result (ConvertError.StoreFault p)
         → RoseAt p (0 ∷ map P.faults patches.old.items) (0 ∷ map P.faults patches.new.items) }
 {

@@ -8,7 +8,7 @@ ghost use Rattle.tile_extract.specs.Extract.{CollectCauses, CollectRefuses, IsCo
 ghost use Rattle.tile_extract.specs.Written.{of_walk_error};
 ghost use Rattle.tile_extract.specs.Faults.{SourceStands};
 
-use crate::subtree::intervals_of;
+use crate::subtree::subtree_intervals;
 use crate::writing::of_reader;
 use crate::{ExtractError, IdIntervals, TilePart};
 use base_values::TextVal;
@@ -132,6 +132,6 @@ pub fn collect<B: Backend>(
         + (walked extents.Within 6 (header_of state.now) b (intervals root max_zoom) 0 None
         (root_of state.now)).reads) }
 {
-    let intervals = intervals_of(alloc, root, max_zoom)?;
+    let intervals = subtree_intervals(alloc, root, max_zoom)?;
     collect_intervals(alloc, state, source, &intervals, max_tiles)
 }

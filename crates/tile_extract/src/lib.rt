@@ -25,6 +25,7 @@ pub use extraction::{extract, extract_intervals};
 pub use id_intervals::IdIntervals;
 pub use outcome::{ExtractOutcome, extract_status};
 pub use part::TilePart;
+pub use subtree::subtree_intervals;
 pub use top_call::run_extract;
 pub use writing::write_parts;
 pub use zoom_box::ZoomBox;

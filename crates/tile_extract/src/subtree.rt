@@ -22,7 +22,7 @@ fn interval_of(root: TileCoord, zoom: u8) -> (u64, u64)
 }
 
 /// The first and the last id of a tile's descendants at each zoom from its own to another, up to 31.
-pub(crate) fn intervals_of(
+pub fn subtree_intervals(
     alloc: Global,
     root: TileCoord,
     max_zoom: u8,
@@ -49,7 +49,7 @@ pub(crate) fn part_below(
     ensures { IfOk result (λ part. part ≡ subtree root max_zoom) }
 {
     Ok(TilePart {
-        intervals: intervals_of(alloc, root, max_zoom)?,
+        intervals: subtree_intervals(alloc, root, max_zoom)?,
         min_zoom: root.z(),
         max_zoom,
     })

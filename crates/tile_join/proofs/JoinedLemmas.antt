@@ -116,14 +116,14 @@ map_held : (b : List ℕ) (o : Opened) (t : ℕ) → opened b ≡ Ok o → (met 
 map_held b o t opens fine = sym (whole_cut b t) ∙ cut_held b o whole_part t opens fine
 
 -- what is found of a source
-record IsFound (b : List ℕ) (f : Header × List Entry) : Type 0 where
+pub record IsFound (b : List ℕ) (f : Header × List Entry) : Type 0 where
   pub out : Opened
   pub opens : opened b ≡ Ok out
   pub fine : (met b out).refusal ≡ None
   pub header : out.0 ≡ f.0
   pub runs : runs_met b out ≡ f.1
 
-is_found : (most k : ℕ) (b : List ℕ) (f : Header × List Entry) → found most k b ≡ Ok f → IsFound b f
+pub is_found : (most k : ℕ) (b : List ℕ) (f : Header × List Entry) → found most k b ≡ Ok f → IsFound b f
 unfolding found
 is_found most k b f is = by (opened b) refl is
   where

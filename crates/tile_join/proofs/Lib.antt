@@ -14,3 +14,4 @@ pub mod DoneLemmas
 pub mod MapLemmas
 pub mod JoinedLemmas
 pub mod PutLemmas
+pub mod WholeLemmas

@@ -87,7 +87,7 @@ pub use Rattle.tile_streaming.specs.RowMarks.{mark_in, marks_in}
 pub use Rattle.tile_streaming.specs.RowTests.{AreFindings, IsNamedBy, names_refused, settled, unless_found}
 pub use Rattle.tile_streaming.specs.Seen.{AreMarked, AreMarkedFrom, SeesRows, SeesTold}
 pub use Rattle.tile_streaming.specs.Sizing.{is_too_long, overflow_of}
-pub use Rattle.tile_streaming.specs.Streaming.{as_convert, as_report, due_of, HidesRest, IsHeld, IsHeldOf, IsHeldWith, IsOfState, IsUnwritten, StreamCauses, StreamEnds, StreamLeaves, tested_due}
+pub use Rattle.tile_streaming.specs.Streaming.{as_convert, as_report, due_of, HidesRest, IsHeld, IsHeldOf, IsHeldWith, IsOfState, IsUnwritten, PartLeaves, StreamCauses, StreamEnds, StreamLeaves, tested_due}
 pub use Rattle.tile_streaming.specs.Written.{AddsCauses, FindCauses, HasWritten, IsChanged, IsOfRead, of_find_error, StepCauses, WrittenLeaves}
 pub use Rattle.tile_streaming.specs.declared.contents.Known.{Known}
 pub use Rattle.tile_streaming.specs.declared.contents.SeenContents.{SeenContents}

@@ -1,5 +1,5 @@
 -- What is due of a base and its patches, before and after the set is tested, and the words for refusals.
-use Rattle.tile_streaming.proofs.Common.{ap, arith, Bool, cond, ConvertError, Coord, Err, false, IfSome, is_some, IsDue, IsEmpty, IsPlain, IsRefused, List, MbtError, None, Ok, Option, Options, overflows, refl, Result, Rose, RoseAt, Some, State, StreamCauses, StreamError, StreamLeaves, StreamReport, subst, suc, tested_due, true, zero, ℕ, [], ◌∙◌, ◌∷◌, ◌≡◌, ◌≤◌}
+use Rattle.tile_streaming.proofs.Common.{ap, arith, Bool, cond, ConvertError, Coord, Err, false, IfSome, is_some, IsDue, IsEmpty, IsPlain, IsRefused, List, MbtError, None, Ok, Option, Options, overflows, PartLeaves, refl, Result, Rose, RoseAt, Some, State, StreamCauses, StreamError, StreamReport, subst, suc, tested_due, true, zero, ℕ, [], ◌∙◌, ◌∷◌, ◌≡◌, ◌≤◌}
 use Rattle.tile_bridge.specs.Outcome.{tested, then, unless_wrong, unverified}
 use Rattle.tile_bridge.specs.Stores.{Refuses}
 use Rattle.tile_bridge.specs.declared.error.ConvertError.TheVariants.{IndexEntryOverflow, Store}
@@ -59,8 +59,8 @@ module _ (due : Option (Result State ConvertError)) (tells tells_now : Bool) (sa
   pub causes_moved : (w : Options) (m : Option (List ℕ)) (r : Result StreamReport StreamError) → StreamCauses w due tells_now m r → StreamCauses w due tells m r
   causes_moved w m r h = subst (λ b. StreamCauses w due b m r) same h
 
-  pub leaves_moved : (gives : State → Options → Type 0) (coords : List Coord) (r : Result StreamReport StreamError) (old new : Option (List ℕ)) → StreamLeaves gives due tells_now coords r old new → StreamLeaves gives due tells coords r old new
-  leaves_moved gives coords r old new h = subst (λ b. StreamLeaves gives due b coords r old new) same h
+  pub leaves_moved : (part : Option (List (ℕ × ℕ))) (gives : State → Options → Type 0) (coords : List Coord) (r : Result StreamReport StreamError) (old new : Option (List ℕ)) → PartLeaves part gives due tells_now coords r old new → PartLeaves part gives due tells coords r old new
+  leaves_moved part gives coords r old new h = subst (λ b. PartLeaves part gives due b coords r old new) same h
 
 -- a count that rose since, rose from before
 pub rose_more : (place a b c : ℕ) → a ≤ b → RoseAt place (b ∷ []) (c ∷ []) → RoseAt place (a ∷ []) (c ∷ [])

@@ -1,5 +1,6 @@
 mod Common
 pub mod AddingLemmas
+pub mod CutOutLemmas
 pub mod DueLemmas
 pub mod HashLemmas
 pub mod HashedLemmas
@@ -37,6 +38,8 @@ pub mod ElementLemmas
 pub mod FactLemmas
 pub mod BegunLemmas
 pub mod HollowLemmas
+pub mod PartLemmas
 pub mod PatchLemmas
 pub mod PatchedSetLemmas
 pub mod ResolveLemmas
+pub mod StandsLemmas

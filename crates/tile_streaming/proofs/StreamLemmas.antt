@@ -1,6 +1,6 @@
 -- What a conversion of marks answers and leaves.
-use Rattle.tile_streaming.proofs.Common.{adds_of, All, ap, ArchivePlaces, AreAddsOf, AreRead, as_report, Bool, CanBeWritten, ConvertError, ConvertOptions, Coord, entries, Err, false, false≢true, HasWritten, HasBytes, HaveLengths, HidesRest, IfSome, inl, inr, is_some, IsDue, IsEmpty, IsHeldOf, IsHeldWith, IsHidden, IsMarkedAs, IsOfRead, IsPlain, IsStored, length, List}
-use Rattle.tile_streaming.proofs.Common.{map, Mark, MarkedSet, None, Ok, Option, Options, OptionsFit, overflow_of, overflows, PmtError, refl, Result, Rose, RoseAt, SetLeaves, Some, State, StepCauses, Stored, StreamCauses, StreamEnds, StreamError, StreamLeaves, StreamReport, subst, sym, tested_due, TileSet, true, WrittenLeaves, ℕ, [], ◌<◌, ◌^◌, ◌∙◌, ◌∷◌, ◌≡◌, ◌⊎◌}
+use Rattle.tile_streaming.proofs.Common.{adds_of, All, ArchivePlaces, AreAddsOf, AreMarksOf, AreRead, as_report, Bool, CanBeWritten, ConvertError, ConvertOptions, Coord, entries, Err, false, false≢true, HasWritten, HasBytes, HaveLengths, HidesRest, IfSome, inl, inr, is_some, IsDue, IsEmpty, IsHeldOf, IsHeldWith, IsHidden, IsMarkedAs, IsOfRead, IsPlain, IsStored, length, List}
+use Rattle.tile_streaming.proofs.Common.{map, Mark, MarkedSet, None, Ok, Option, Options, OptionsFit, overflow_of, overflows, PartLeaves, PmtError, refl, Result, Rose, RoseAt, SetLeaves, Some, State, StepCauses, Stored, StreamCauses, StreamEnds, StreamError, StreamReport, subst, sym, tested_due, TileSet, true, WrittenLeaves, ℕ, [], ◌<◌, ◌^◌, ◌∙◌, ◌∷◌, ◌≡◌, ◌⊎◌}
 unfoldable use Rattle.tile_streaming.proofs.Common.{archive}
 use Rattle.pm_format.specs.LookUp.{archive_map}
 use Rattle.pm_format.specs.declared.error.PmtError.TheVariants as errors
@@ -13,9 +13,11 @@ use Rattle.tile_bridge.specs.ReadingBack.{IsHindered, of_read_error, ReadBackCau
 use Rattle.tile_bridge.specs.declared.error.ConvertError.TheVariants.{MediumFault, OutOfMemory, ReadBack, StoreFault}
 use Rattle.tile_ids.specs.Hilbert.{id_of}
 use Rattle.tile_streaming.specs.Hashing.{HasHash, IsHashOf, IsRight}
+use Rattle.tile_streaming.specs.Part.{marks_of_part, part_of}
 use Rattle.tile_streaming.specs.declared.error.StreamError.TheVariants.{Convert, StoreChanged}
 use Rattle.tile_streaming.proofs.DueLemmas.{state_due}
 use Rattle.tile_streaming.proofs.MarkLemmas.{all_ranged, AllRanged, can_write, ranged_all}
+use Rattle.tile_streaming.proofs.PartLemmas.{part_fits, part_has, part_marks, part_ranged, whole_of}
 use Rattle.tile_streaming.proofs.ReadLemmas.{lengths_read}
 use Rattle.tile_streaming.proofs.SizeLemmas.{overflow_same}
 use Rattle.tile_streaming.proofs.StoredLemmas.{all_stored, bytes_there}
@@ -69,9 +71,9 @@ step_causes A w due tells told s sn m mn (Convert OutOfMemory) empty plain c = t
 step_causes A w due tells told s sn m mn (Convert _) empty plain c = absurd c
 
 -- the options that are held are those that are given
-pub given_leaves : (m : MarkedSet) (w : Options) (gives : State → Options → Type 0) → ((s : State) → IsMarkedAs s m → gives s w) → (due : Option (Result State ConvertError)) (tells : Bool) (coords : List Coord) (r : Result StreamReport StreamError) (old new : Option (List ℕ)) → StreamLeaves (IsHeldWith m w) due tells coords r old new → StreamLeaves gives due tells coords r old new
-given_leaves m w gives given due tells coords r old new (inl u) = inl u
-given_leaves m w gives given due tells coords r old new (inr s) = inr (record {
+pub given_leaves : (part : Option (List (ℕ × ℕ))) (m : MarkedSet) (w : Options) (gives : State → Options → Type 0) → ((s : State) → IsMarkedAs s m → gives s w) → (due : Option (Result State ConvertError)) (tells : Bool) (coords : List Coord) (r : Result StreamReport StreamError) (old new : Option (List ℕ)) → PartLeaves part (IsHeldWith m w) due tells coords r old new → PartLeaves part gives due tells coords r old new
+given_leaves part m w gives given due tells coords r old new (inl u) = inl u
+given_leaves part m w gives given due tells coords r old new (inr s) = inr (record {
   state = s.state;
   options = s.options;
   is_due = s.is_due;
@@ -91,18 +93,22 @@ set_ends tells told (ReadBack e) c = c
 set_ends tells told OutOfMemory c = tt
 set_ends tells told _ c = absurd c
 
-module _ (tells : Bool) (t : Stored) (o : ConvertOptions) (w : Options) (m : MarkedSet) (begun : Option (Result State ConvertError)) (from : IsHeldOf begun tells t m) (right : IsRight o.verify tells t m) (size : overflow_of m.marks.items ≡ false) (fit : OptionsFit w) (metadata : length w.metadata < 2 ^ 63) where
+module _ (part : Option (List (ℕ × ℕ))) (tells : Bool) (t : Stored) (o : ConvertOptions) (w : Options) (m : MarkedSet) (begun : Option (Result State ConvertError)) (from : IsHeldOf begun tells t m) (right : IsRight o.verify tells t m) (size : overflow_of m.marks.items ≡ false) (fit : OptionsFit w) (metadata : length w.metadata < 2 ^ 63) where
   abbrev due : Option (Result State ConvertError)
   due = tested_due o.verify begun
 
+  -- all marks, and those of the part
+  abbrev all : List Mark
+  all = m.marks.items
+
   abbrev marks : List Mark
-  marks = m.marks.items
+  marks = marks_of_part part all
 
   abbrev first : State
   first = from.state
 
   few : overflows first.tiles ≡ false
-  few = sym (overflow_same first.tiles marks from.held.marks) ∙ size
+  few = sym (overflow_same first.tiles all from.held.marks) ∙ size
 
   first_due : IsDue due first
   first_due = state_due o.verify begun first from.is_due (λ b. let u = from.told b in right u first from.held (from.has u)) few
@@ -110,11 +116,27 @@ module _ (tells : Bool) (t : Stored) (o : ConvertOptions) (w : Options) (m : Mar
   first_ranged : AllRanged (entries first.tiles)
   first_ranged = ranged_all (entries first.tiles) from.held.ranged
 
+  -- the tiles of the part
+  abbrev tiles : TileSet
+  tiles = part_of part first.tiles
+
+  are : AreMarksOf tiles marks
+  are = part_marks part first.tiles all from.held.marks
+
+  ranged : AllRanged (entries tiles)
+  ranged = part_ranged part first.tiles first_ranged
+
+  fits : overflow_of marks ≡ false
+  fits = part_fits part all size
+
+  has : tells ≡ true → HasBytes t tiles
+  has u p c there = from.has u p c (part_has part first.tiles p c there)
+
   pub can : (contents : List (List ℕ)) → HaveLengths marks contents → CanBeWritten w (adds_of marks contents)
-  can contents lengths = can_write first.tiles marks from.held.marks first_ranged w fit metadata size contents lengths
+  can contents lengths = can_write tiles marks are ranged w fit metadata fits contents lengths
 
   pub stored_all : tells ≡ true → All (IsStored t) marks
-  stored_all u = all_stored t first.tiles marks from.held.marks (from.has u)
+  stored_all u = all_stored t tiles marks are (has u)
 
   -- the state whose tiles were read
   record StateOfRead (contents : List (List ℕ)) : Type 0 where
@@ -122,7 +144,7 @@ module _ (tells : Bool) (t : Stored) (o : ConvertOptions) (w : Options) (m : Mar
     pub is_due : IsDue due state
     pub held : IsMarkedAs state m
     pub has : tells ≡ true → HasBytes t state.tiles
-    pub adds : AreAddsOf (adds_of marks contents) state.tiles
+    pub adds : AreAddsOf (adds_of marks contents) (part_of part state.tiles)
 
   -- nothing is due of a store that tells nothing
   none_due : tells ≡ false → (s : State) → IsDue due s
@@ -141,37 +163,38 @@ module _ (tells : Bool) (t : Stored) (o : ConvertOptions) (w : Options) (m : Mar
         is_due = first_due;
         held = from.held;
         has = from.has;
-        adds = told_adds tells t first.tiles marks from.held.marks first_ranged size contents read u (bytes_there t first.tiles (from.has u));
+        adds = told_adds tells t tiles marks are ranged fits contents read u (bytes_there t tiles (has u));
       }
       by false u =
-          let tiles = read_tiles tells t first.tiles marks from.held.marks first_ranged size contents read in
+          let found = read_tiles tells t tiles marks are ranged fits contents read in
+          let whole = whole_of part first.tiles all from.held.marks first_ranged found (read_ranged tells t tiles marks are ranged fits contents read) (read_marks tells t tiles marks are ranged fits contents read) in
           record {
-            state = with_tiles first tiles;
-            is_due = none_due u (with_tiles first tiles);
+            state = with_tiles first whole.whole;
+            is_due = none_due u (with_tiles first whole.whole);
             held = record {
               layout = from.held.layout;
               algorithm = from.held.algorithm;
               names = from.held.names;
-              ranged = all_ranged (entries tiles) (read_ranged tells t first.tiles marks from.held.marks first_ranged size contents read);
-              marks = read_marks tells t first.tiles marks from.held.marks first_ranged size contents read;
+              ranged = all_ranged (entries whole.whole) whole.ranged;
+              marks = whole.marks;
             };
             has = λ v. absurd (false≢true (sym u ∙ v));
-            adds = read_adds tells t first.tiles marks from.held.marks first_ranged size contents read;
+            adds = subst (AreAddsOf (adds_of marks contents)) (sym whole.is) (read_adds tells t tiles marks are ranged fits contents read);
           }
 
   module _ (coords : List Coord) (old new : Option (List ℕ)) (empty : IsEmpty old) (same : is_some new ≡ is_some old) where
     abbrev LeavesAll : Result StreamReport StreamError → Type 0
-    LeavesAll r = StreamLeaves (IsHeldWith m w) due tells coords r old new
+    LeavesAll r = PartLeaves part (IsHeldWith m w) due tells coords r old new
 
     -- an error: what is left of either kind
-    of_error : (s : State) (e : StreamError) → IsMarkedAs s m → IsDue due s → StreamEnds tells old (Err e) → HidesRest new (Err e) → ((x : ConvertError) → SetLeaves w s.tiles coords (Err x) old new) → LeavesAll (Err e)
+    of_error : (s : State) (e : StreamError) → IsMarkedAs s m → IsDue due s → StreamEnds tells old (Err e) → HidesRest new (Err e) → ((x : ConvertError) → SetLeaves w (part_of part s.tiles) coords (Err x) old new) → LeavesAll (Err e)
     of_error s (Convert x) held is ended hides leaves = inr (record { state = s; options = w; is_due = is; given = (held, refl); empty = empty; ended = ended; medium = leaves x; hidden = hides; aggregate_is = tt; places = tt })
     of_error s StoreChanged held is ended hides leaves = inr (record { state = s; options = w; is_due = is; given = (held, refl); empty = empty; ended = ended; medium = leaves OutOfMemory; hidden = hides; aggregate_is = tt; places = tt })
 
-    hidden_leaves : (told : Option (List ℕ)) → is_some told ≡ is_some old → IfSome told IsHidden → (x : ConvertError) → SetLeaves w first.tiles coords (Err x) old told
+    hidden_leaves : (told : Option (List ℕ)) → is_some told ≡ is_some old → IfSome told IsHidden → (x : ConvertError) → SetLeaves w tiles coords (Err x) old told
     hidden_leaves told same h x = by old told same h
       where
-        by : (a b : Option (List ℕ)) → is_some b ≡ is_some a → IfSome b IsHidden → SetLeaves w first.tiles coords (Err x) a b
+        by : (a b : Option (List ℕ)) → is_some b ≡ is_some a → IfSome b IsHidden → SetLeaves w tiles coords (Err x) a b
         by None None same h = tt
         by None (Some b) same h = absurd (cc)
         by (Some a) None same h = absurd (cc)
@@ -190,7 +213,7 @@ module _ (tells : Bool) (t : Stored) (o : ConvertOptions) (w : Options) (m : Mar
         by (Some b) is (inr r) =
             let s = state_for r.contents r.read in
             let adds = adds_of marks r.contents in
-            of_error s.state e s.held s.is_due ended hides (λ x. leaves_whole w adds (can r.contents (lengths_read tells t marks r.contents r.read)) s.state.tiles coords x old new s.adds same (subst (λ x. IfSome x (λ b. b ≡ archive w adds)) (sym is) r.whole))
+            of_error s.state e s.held s.is_due ended hides (λ x. leaves_whole w adds (can r.contents (lengths_read tells t marks r.contents r.read)) (part_of part s.state.tiles) coords x old new s.adds same (subst (λ x. IfSome x (λ b. b ≡ archive w adds)) (sym is) r.whole))
 
     pub part_left : (e : StreamError) → StreamEnds tells old (Err e) → WrittenLeaves w tells t marks old new (Err e) → LeavesAll (Err e)
     part_left StoreChanged ended h = left_hidden StoreChanged ended h h
@@ -224,7 +247,7 @@ module _ (tells : Bool) (t : Stored) (o : ConvertOptions) (w : Options) (m : Mar
         given = (state.held, refl);
         empty = empty;
         ended = tt;
-        medium = leaves_all w adds written state.state.tiles coords (as_report r) old new state.adds (h.taken, h.took, places ∙ h.places) same h.whole read;
+        medium = leaves_all w adds written (part_of part state.state.tiles) coords (as_report r) old new state.adds (h.taken, h.took, places ∙ h.places) same h.whole read;
         hidden = tt;
         aggregate_is = hash_held r.aggregate hash;
         places = record { adds = adds; are = state.adds; taken = h.taken; took = h.took; places = places ∙ h.places };
@@ -239,7 +262,7 @@ module _ (tells : Bool) (t : Stored) (o : ConvertOptions) (w : Options) (m : Mar
         refused = read_refused w adds written before now e (of_read_error e) old new refl same h.whole hindered cause
 
         pub unread_left : LeavesAll (Err (Convert (of_read_error e)))
-        unread_left = of_error state.state (Convert (of_read_error e)) state.held state.is_due (set_ends tells old (of_read_error e) refused) (no_rest new e) (λ x. leaves_whole w adds written state.state.tiles coords x old new state.adds same h.whole)
+        unread_left = of_error state.state (Convert (of_read_error e)) state.held state.is_due (set_ends tells old (of_read_error e) refused) (no_rest new e) (λ x. leaves_whole w adds written (part_of part state.state.tiles) coords x old new state.adds same h.whole)
 
         pub unread_causes : IsPlain o.writer → StreamCauses o.writer due tells old (Err (Convert (of_read_error e)))
         unread_causes plain = set_causes o.writer due state.state state.is_due old (Err (of_read_error e)) empty plain refused

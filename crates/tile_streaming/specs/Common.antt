@@ -34,6 +34,7 @@ pub use Rattle.mb_tables.specs.declared.error.MbtError.TheVariants.{InvalidDataF
 pub use Rattle.mb_tables.specs.declared.kind.MbtType.{MbtType}
 pub use Rattle.mb_tables.specs.declared.kind.MbtType.TheVariants.{Cache, Normalized}
 pub use Rattle.mb_tables.specs.declared.table.TableName.TheVariants.{Metadata}
+pub use Rattle.pm_format.specs.LookUp.{archive_map}
 pub use Rattle.pm_format.specs.Options.{Options}
 pub use Rattle.pm_format.specs.declared.error.PmtError.{PmtError}
 unfoldable pub use Rattle.pm_writer.specs.Archive.{archive}

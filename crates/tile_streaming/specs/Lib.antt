@@ -7,12 +7,14 @@ pub mod Marks
 pub mod MarkFacts
 pub mod Sizing
 pub mod Spots
+pub mod Stands
 pub mod Streaming
 pub mod Written
 pub mod RowMarks
 pub mod RowTests
 pub mod Seen
 pub mod Overlaid
+pub mod Part
 pub mod PatchedSet
 pub mod Patching
 pub mod Stored

@@ -6,6 +6,7 @@ use Rattle.tile_bridge.specs.declared.error.ConvertError.TheVariants.{MediumFaul
 use Rattle.pm_format.specs.declared.compression.Compression.TheVariants as compression
 use Rattle.tile_streaming.specs.Hashing.{HasHash}
 use Rattle.tile_streaming.specs.Marks.{IsMarkedAs}
+use Rattle.tile_streaming.specs.Part.{part_of}
 use Rattle.tile_streaming.specs.Stored.{HasBytes, Stored}
 use Rattle.tile_streaming.specs.declared.error.StreamError.{StreamError}
 use Rattle.tile_streaming.specs.declared.error.StreamError.TheVariants.{Convert, StoreChanged}
@@ -55,23 +56,27 @@ HidesRest new (Err (Convert (StoreFault place))) = IfSome new IsHidden
 HidesRest new _ = Unit {0}
 
 -- The set was at hand, and the medium empty. The options are those that the state gives, which is the one that
--- is due, where the store tells. The medium holds the archive of this state and these options, or no part of it;
--- and the report is of both.
-pub record IsOfState (gives : State → Options → Type 0) (due : Option (Result State ConvertError)) (tells : Bool) (coords : List Coord) (result : Result StreamReport StreamError) (old new : Option (List ℕ)) : Type 0 where
+-- is due, where the store tells. The medium holds the archive of a part of this state and these options, or no part of
+-- it; and the report is of both, with the hash of the whole state.
+pub record IsOfState (part : Option (List (ℕ × ℕ))) (gives : State → Options → Type 0) (due : Option (Result State ConvertError)) (tells : Bool) (coords : List Coord) (result : Result StreamReport StreamError) (old new : Option (List ℕ)) : Type 0 where
   pub state : State
   pub options : Options
   pub is_due : IsDue due state
   pub given : gives state options
   pub empty : IsEmpty old
   pub ended : StreamEnds tells old result
-  pub medium : SetLeaves options state.tiles coords (as_convert result) old new
+  pub medium : SetLeaves options (part_of part state.tiles) coords (as_convert result) old new
   pub hidden : HidesRest new result
   pub aggregate_is : IfOk result (λ r. IfSome r.aggregate (HasHash tells state))
-  pub places : IfOk result (λ r. HasPlaces options state.tiles old (as_report r))
+  pub places : IfOk result (λ r. HasPlaces options (part_of part state.tiles) old (as_report r))
 
--- What a conversion leaves, whichever way it ends.
+-- What a conversion of a part leaves, whichever way it ends.
+abbrev pub PartLeaves : Option (List (ℕ × ℕ)) → (State → Options → Type 0) → Option (Result State ConvertError) → Bool → List Coord → Result StreamReport StreamError → Option (List ℕ) → Option (List ℕ) → Type 0
+PartLeaves part gives due tells coords result old new = IsUnwritten result old new ⊎ IsOfState part gives due tells coords result old new
+
+-- and that of all tiles
 abbrev pub StreamLeaves : (State → Options → Type 0) → Option (Result State ConvertError) → Bool → List Coord → Result StreamReport StreamError → Option (List ℕ) → Option (List ℕ) → Type 0
-StreamLeaves gives due tells coords result old new = IsUnwritten result old new ⊎ IsOfState gives due tells coords result old new
+StreamLeaves = PartLeaves None
 
 -- the options of a set that is held by its marks: these, whichever state it is held of
 abbrev pub IsHeldWith : MarkedSet → Options → State → Options → Type 0

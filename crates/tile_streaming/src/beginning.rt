@@ -1,5 +1,6 @@
 // The base of a conversion, read before its patches.
 ghost use Rattle.std.specs.Prelude.{◌≡◌, ◌&&◌, ℕ, IfErr, IfOk, IsErrOf, OnOk};
+ghost use Rattle.tile_bridge.specs.Stands.{IsAt};
 ghost use Rattle.tile_bridge.specs.Stores.{due_at, IsStoreError, Refuses};
 ghost use Rattle.tile_streaming.specs.Common.{ReadsOnly, Rose};
 ghost use Rattle.tile_streaming.specs.Overlaid.{has_digests};
@@ -24,6 +25,7 @@ fn are_digested(tables: &[TableDesc]) -> bool {
 fn is_digested<S: TileStore>(alloc: Global, base: &mut S) -> Result<bool, ConvertError>
     ensures causes { IfErr result IsStoreError }
     ensures kept { ReadsOnly S.told S.tells S.faults S.steady base.old base.new }
+    ensures placed { IfErr result (IsAt 0) }
     ensures still { OnOk result (S.faults base.new ≡ S.faults base.old) }
     ensures fault { (p : ℕ) → IsErrOf result (ConvertError.StoreFault p)
         → (p ≡ 0) × Rose (S.faults base.old) (S.faults base.new) }
@@ -44,6 +46,7 @@ fn read_whole<S: TileStore>(
     ensures begun { IfOk result (IsBegun patched (S.tells base.old) (S.told base.old)) }
     ensures refused { IfErr result (Refuses (due_at 0 (S.tells base.old) (S.told base.old))) }
     ensures kept { ReadsOnly S.told S.tells S.faults S.steady base.old base.new }
+    ensures placed { IfErr result (IsAt 0) }
     ensures still { OnOk result (S.faults base.new ≡ S.faults base.old) }
     ensures fault { (p : ℕ) → IsErrOf result (ConvertError.StoreFault p)
         → (p ≡ 0) × Rose (S.faults base.old) (S.faults base.new) }
@@ -70,6 +73,7 @@ fn read_marked<S: TileStore>(
     ensures begun { IfOk result (IsBegun patched (S.tells base.old) (S.told base.old)) }
     ensures refused { IfErr result (Refuses (due_at 0 (S.tells base.old) (S.told base.old))) }
     ensures kept { ReadsOnly S.told S.tells S.faults S.steady base.old base.new }
+    ensures placed { IfErr result (IsAt 0) }
     ensures still { OnOk result (S.faults base.new ≡ S.faults base.old) }
     ensures fault { (p : ℕ) → IsErrOf result (ConvertError.StoreFault p)
         → (p ≡ 0) × Rose (S.faults base.old) (S.faults base.new) }
@@ -95,6 +99,7 @@ pub(crate) fn read_base<S: TileStore>(
     ensures begun { IfOk result (IsBegun patched (S.tells base.old) (S.told base.old)) }
     ensures refused { IfErr result (Refuses (due_at 0 (S.tells base.old) (S.told base.old))) }
     ensures kept { ReadsOnly S.told S.tells S.faults S.steady base.old base.new }
+    ensures placed { IfErr result (IsAt 0) }
     ensures still { OnOk result (S.faults base.new ≡ S.faults base.old) }
     ensures fault { (p : ℕ) → IsErrOf result (ConvertError.StoreFault p)
         → (p ≡ 0) × Rose (S.faults base.old) (S.faults base.new) }

@@ -4,6 +4,7 @@ ghost use Rattle.mb_tables.specs.declared.cell.Cell.TheVariants.{Null};
 ghost use Rattle.tile_streaming.specs.Common.{cell_bytes, FaultsCounted, place_at, ReadsOnly, Rose, tile_key};
 ghost use Rattle.tile_streaming.specs.Finding.{bytes_told, fits, has_size, named_told, row_bytes, row_told, tile_told};
 ghost use Rattle.tile_streaming.specs.PatchedSet.{bytes_in, held_bytes, stored_in};
+ghost use Rattle.tile_streaming.specs.Stands.{BaseStands};
 ghost use Rattle.tile_streaming.specs.Written.{FindCauses, IsChanged};
 
 use crate::patched_set::PatchedSet;
@@ -149,7 +150,7 @@ fn stored_row<S: TileStore>(
     ensures causes { FindCauses (IsChanged (S.tells store.old)
         (bytes_told layout (S.told store.old)) mark.now) (S.faults store.old) (S.faults store.new) result }
     ensures kept { ReadsOnly S.told S.tells S.faults S.steady store.old store.new }
-    ensures still { OnOk result (S.faults store.new ≡ S.faults store.old) }
+    ensures still { BaseStands (S.faults store.old) (S.faults store.new) result }
 {
     let Some(row) = find_row(alloc, store, layout, mark.id)? else {
         return Err(StreamError::StoreChanged);
@@ -192,7 +193,7 @@ pub(crate) fn marked_row<S: TileStore>(
         (stored_in set.now (S.told store.old)) mark.now)
         (S.faults store.old) (S.faults store.new) result }
     ensures kept { ReadsOnly S.told S.tells S.faults S.steady store.old store.new }
-    ensures still { OnOk result (S.faults store.new ≡ S.faults store.old) }
+    ensures still { BaseStands (S.faults store.old) (S.faults store.new) result }
 {
     if set.holds(mark.id) {
         return held_row(set, mark);

@@ -5,6 +5,7 @@ ghost use Rattle.tile_streaming.specs.Common.{HashAlgorithm, in_hexadecimal, pla
 ghost use Rattle.tile_streaming.specs.Hashing.{AreHashed, IsHashed, IsHashOf};
 ghost use Rattle.tile_streaming.specs.PatchedSet.{stored_in};
 ghost use Rattle.tile_streaming.specs.Spots.{marks_at};
+ghost use Rattle.tile_streaming.specs.Stands.{BaseStands};
 ghost use Rattle.tile_streaming.specs.Stored.{IsStored};
 ghost use Rattle.tile_streaming.specs.Streaming.{IsHeld};
 ghost use Rattle.tile_streaming.specs.Written.{FindCauses, IsChanged};
@@ -60,7 +61,7 @@ fn hash_mark<S: TileStore>(
         (stored_in set.now (S.told store.old)) mark.now)
         (S.faults store.old) (S.faults store.new) result }
     ensures kept { ReadsOnly S.told S.tells S.faults S.steady store.old store.new }
-    ensures still { OnOk result (S.faults store.new ≡ S.faults store.old) }
+    ensures still { BaseStands (S.faults store.old) (S.faults store.new) result }
 {
     let coord = TileCoord::from(mark.id);
     if is_empty(mark) {
@@ -91,7 +92,7 @@ fn hash_spots<S: TileStore>(
     ensures causes { FindCauses (S.tells store.old ≡ false)
         (S.faults store.old) (S.faults store.new) result }
     ensures kept { ReadsOnly S.told S.tells S.faults S.steady store.old store.new }
-    ensures still { OnOk result (S.faults store.new ≡ S.faults store.old) }
+    ensures still { BaseStands (S.faults store.old) (S.faults store.new) result }
 {
     for spot in spots {
         hash_mark(alloc, store, set, &marks[spot.index], stream)?;
@@ -117,7 +118,7 @@ pub(crate) fn hash_marked<S: TileStore>(
     ensures causes { FindCauses (S.tells store.old ≡ false)
         (S.faults store.old) (S.faults store.new) result }
     ensures kept { ReadsOnly S.told S.tells S.faults S.steady store.old store.new }
-    ensures still { OnOk result (S.faults store.new ≡ S.faults store.old) }
+    ensures still { BaseStands (S.faults store.old) (S.faults store.new) result }
 {
     let marks = set.marked.marks.as_slice();
     if marks.is_empty() {

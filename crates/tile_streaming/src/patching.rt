@@ -1,8 +1,9 @@
 // Patches of a base of which marks are held, one after another.
-ghost use Rattle.std.specs.Prelude.{◌≡◌, ◌≢◌, ◌<◌, ℕ, Bool, Err, false, suc, filter, length, map, not, true, IfErr, IfOk, IsErrOf, None, OnOk};
+ghost use Rattle.std.specs.Prelude.{◌≡◌, ◌≢◌, ◌<◌, ◌∷◌, ℕ, Bool, Err, false, suc, filter, length, map, not, true, IfErr, IfOk, IsErrOf, None, OnOk};
 ghost use Rattle.mb_edit.specs.PatchingOrder.{may_patch};
 ghost use Rattle.mb_edit.specs.Step.{state_patched, step};
 ghost use Rattle.mb_load.specs.LoadedFrom.{IsLoadable};
+ghost use Rattle.tile_bridge.specs.Stands.{IsAt, StoresStand};
 ghost use Rattle.tile_bridge.specs.Stores.{AreOnlyRead, due_patch, due_patches, Refuses, RoseAt};
 ghost use Rattle.tile_streaming.specs.Common.{contains_key, is_free, ReadsOnly, Rose, State};
 ghost use Rattle.tile_streaming.specs.Finding.{place_with};
@@ -72,6 +73,7 @@ fn patch_at<P: TileStore>(
         → StandsFor patched tells stored set s
         → IfErr result (Refuses (due_patch force place s (P.tells patch.old) (P.told patch.old))) }
     ensures kept { ReadsOnly P.told P.tells P.faults P.steady patch.old patch.new }
+    ensures placed { IfErr result (IsAt place) }
     ensures still { OnOk result (P.faults patch.new ≡ P.faults patch.old) }
     ensures fault { (p : ℕ) → IsErrOf result (ConvertError.StoreFault p)
         → (p ≡ place) × Rose (P.faults patch.old) (P.faults patch.new) }
@@ -106,8 +108,8 @@ pub(crate) fn patch_all<P: TileStore>(
     ensures layout { IfOk result (λ set. set.layout ≡ base.layout) }
     ensures read { AreOnlyRead P.tells P.told P.faults P.steady
         patches.old.items patches.new.items }
-    ensures still { OnOk result (map P.faults patches.new.items
-        ≡ map P.faults patches.old.items) }
+    ensures still { (base : ℕ) → StoresStand (base ∷ map P.faults patches.old.items)
+        (base ∷ map P.faults patches.new.items) result }
     ensures fault { (p : ℕ) → IsErrOf result (ConvertError.StoreFault p)
         → (k : ℕ) × (p ≡ suc k) × RoseAt k (map P.faults patches.old.items)
         (map P.faults patches.new.items) }

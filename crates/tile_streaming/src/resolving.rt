@@ -2,6 +2,7 @@
 ghost use Rattle.std.specs.Prelude.{◌≡◌, ◌++◌, ◌<◌, ◌∷◌, ℕ, Bool, map, IfErr, IfOk, IfSome, IsErrOf, OnOk, slice_get};
 ghost use Rattle.std.specs.FinMap.{len};
 ghost use Rattle.std.specs.List.Sorted.{IsNonDecreasingBy, IsPermutation};
+ghost use Rattle.tile_bridge.specs.Stands.{StoresStand};
 ghost use Rattle.tile_bridge.specs.Stores.{AreOnlyRead, Refuses, RoseAt};
 ghost use Rattle.tile_streaming.specs.Common.{entries, ReadsOnly, State};
 ghost use Rattle.tile_streaming.specs.Marks.{IsMarkedAs, mark_of};
@@ -99,9 +100,8 @@ pub(crate) fn resolve<S: TileStore, P: TileStore>(
     ensures patches { AreOnlyRead P.tells P.told P.faults P.steady
         patches.old.items patches.new.items }
     ensures base_kept { ReadsOnly S.told S.tells S.faults S.steady base.old base.new }
-    ensures base_still { OnOk result (S.faults base.new ≡ S.faults base.old) }
-    ensures patches_still { OnOk result (map P.faults patches.new.items
-        ≡ map P.faults patches.old.items) }
+    ensures still { StoresStand (S.faults base.old ∷ map P.faults patches.old.items)
+        (S.faults base.new ∷ map P.faults patches.new.items) result }
     ensures fault { (p : ℕ) → IsErrOf result (ConvertError.StoreFault p)
         → RoseAt p (S.faults base.old ∷ map P.faults patches.old.items)
         (S.faults base.new ∷ map P.faults patches.new.items) }

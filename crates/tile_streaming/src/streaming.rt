@@ -1,9 +1,11 @@
 // The conversion of a base, with patches or without, of which no contents are held.
-ghost use Rattle.std.specs.Prelude.{◌≡◌, ◌+◌, ◌∷◌, ◌||◌, [], ℕ, is_some, map, true, IfOk, IsErrOf, OnOk};
+ghost use Rattle.std.specs.Prelude.{◌≡◌, ◌+◌, ◌∷◌, ◌||◌, [], ℕ, is_some, map, true, IfOk, IsErrOf};
 ghost use Rattle.tile_streaming.specs.Common.{answered, due, GrewFrom, IsEmpty, IsPlain, Keeps, KeepsMedium, Rose, RoseAt};
 ghost use Rattle.byte_media.specs.Kept as media;
+ghost use Rattle.tile_bridge.specs.Stands as tests;
 ghost use Rattle.tile_bridge.specs.Stores.{AreOnlyRead};
-ghost use Rattle.tile_streaming.specs.Streaming.{due_of, StreamCauses, StreamLeaves, TestCauses};
+ghost use Rattle.tile_streaming.specs.Stands.{MediumStands, StoresStand};
+ghost use Rattle.tile_streaming.specs.Streaming.{due_of, PartLeaves, StreamCauses, StreamLeaves, TestCauses};
 
 use crate::converting::convert_marked;
 use crate::resolving::resolve;
@@ -12,6 +14,7 @@ use mb_store::{MemStore, TileStore};
 use pm_format::{Compression, Medium};
 use std::alloc::Global;
 use tile_bridge::{ConvertError, ConvertOptions};
+use tile_extract::IdIntervals;
 use tile_ids::TileCoord;
 
 // What is tested before a store is read: the medium is empty, and directories are labelled `None`.
@@ -20,7 +23,7 @@ fn test_medium<M: Medium>(options: &ConvertOptions, medium: &mut M) -> Result<()
         (M.faults medium.old) (M.faults medium.new) result }
     ensures reads { M.reads medium.new ≡ M.reads medium.old }
     ensures kept { media.ReadsOnly M.told M.versions M.faults M.steady medium.old medium.new }
-    ensures still { OnOk result (M.faults medium.new ≡ M.faults medium.old) }
+    ensures still { tests.MediumStands (M.faults medium.old) (M.faults medium.new) result }
 {
     let length = medium.len()?;
     if length != 0 {
@@ -33,11 +36,12 @@ fn test_medium<M: Medium>(options: &ConvertOptions, medium: &mut M) -> Result<()
     Ok(())
 }
 
-// The conversion of a base and its patches onto a medium that was tested.
+// The conversion of a part of a base and its patches onto a medium that was tested.
 fn convert_tested<S: TileStore, P: TileStore, O: StreamOptions, M: Medium>(
     alloc: Global,
     base: &mut S,
     patches: &mut Vec<P>,
+    part: &Option<IdIntervals>,
     coords: &[TileCoord],
     options: &O,
     hash: bool,
@@ -48,7 +52,7 @@ fn convert_tested<S: TileStore, P: TileStore, O: StreamOptions, M: Medium>(
     ensures causes { StreamCauses (O.asks options.now).writer (due S.tells S.told P.tells P.told
         base.old patches.old.items (O.asks options.now)) (S.tells base.old) (M.told medium.old)
         result }
-    ensures leaves { StreamLeaves (O.gives options.now) (due S.tells S.told P.tells P.told
+    ensures leaves { PartLeaves part.now (O.gives options.now) (due S.tells S.told P.tells P.told
         base.old patches.old.items (O.asks options.now)) (S.tells base.old) coords.now result
         (M.told medium.old) (M.told medium.new) }
     ensures aggregate { IfOk result
@@ -67,13 +71,60 @@ fn convert_tested<S: TileStore, P: TileStore, O: StreamOptions, M: Medium>(
     ensures base_kept { Keeps S.tells S.faults S.steady base.old base.new }
     ensures medium_kept { KeepsMedium M.told M.versions M.reads M.faults M.steady
         medium.old medium.new }
-    ensures base_still { OnOk result (S.faults base.new ≡ S.faults base.old) }
-    ensures patches_still { OnOk result (map P.faults patches.new.items
-        ≡ map P.faults patches.old.items) }
-    ensures medium_still { OnOk result (M.faults medium.new ≡ M.faults medium.old) }
+    ensures stores_still { StoresStand (S.faults base.old ∷ map P.faults patches.old.items)
+        (S.faults base.new ∷ map P.faults patches.new.items) result }
+    ensures medium_still { MediumStands (M.faults medium.old) (M.faults medium.new) result }
 {
     match resolve(alloc, base, patches, options.asked().force) {
-        Ok(set) => convert_marked(alloc, base, &set, coords, options, hash, medium),
+        Ok(set) => convert_marked(alloc, base, &set, part, coords, options, hash, medium),
+        Err(error) => Err(StreamError::Convert(error)),
+    }
+}
+
+/// Converts a part of a base and its patches to an archive, as `convert_patched` converts all of it, and reads the tiles
+/// at the coordinates from it. The part is the tiles whose ids lie in intervals, or without intervals all of them.
+///
+/// The whole set is read and tested, and its options, its hash and each refusal are those of the whole. Only the tiles
+/// that are written, and so the places, are those of the part. The contents of the others aren't read again, but where
+/// the hash is asked for. The marks of the part are held beside those of the whole.
+pub fn convert_part<S: TileStore, P: TileStore, O: StreamOptions, M: Medium>(
+    alloc: Global,
+    base: &mut S,
+    patches: &mut Vec<P>,
+    part: &Option<IdIntervals>,
+    coords: &[TileCoord],
+    options: &O,
+    hash: bool,
+    medium: &mut M,
+) -> Result<StreamReport, StreamError>
+    ensures causes { StreamCauses (O.asks options.now).writer (due S.tells S.told P.tells P.told
+        base.old patches.old.items (O.asks options.now)) (S.tells base.old) (M.told medium.old)
+        result }
+    ensures leaves { PartLeaves part.now (O.gives options.now) (due S.tells S.told P.tells P.told
+        base.old patches.old.items (O.asks options.now)) (S.tells base.old) coords.now result
+        (M.told medium.old) (M.told medium.new) }
+    ensures aggregate { IfOk result
+        (λ report. is_some report.aggregate ≡ (O.asks options.now).verify || hash) }
+    ensures patches { AreOnlyRead P.tells P.told P.faults P.steady
+        patches.old.items patches.new.items }
+    ensures store_fault { (place : ℕ)
+        → IsErrOf result (StreamError.Convert (ConvertError.StoreFault place))
+        → RoseAt place (S.faults base.old ∷ map P.faults patches.old.items)
+        (S.faults base.new ∷ map P.faults patches.new.items) }
+    ensures reads { IfOk result (λ report. GrewFrom (M.reads medium.old) (M.reads medium.new)
+        (answered report.answers + 1)) }
+    ensures fault { IsErrOf result (StreamError.Convert ConvertError.MediumFault)
+        → Rose (M.faults medium.old) (M.faults medium.new) }
+    ensures told { S.tells base.old ≡ true → S.told base.new ≡ S.told base.old }
+    ensures base_kept { Keeps S.tells S.faults S.steady base.old base.new }
+    ensures medium_kept { KeepsMedium M.told M.versions M.reads M.faults M.steady
+        medium.old medium.new }
+    ensures stores_still { StoresStand (S.faults base.old ∷ map P.faults patches.old.items)
+        (S.faults base.new ∷ map P.faults patches.new.items) result }
+    ensures medium_still { MediumStands (M.faults medium.old) (M.faults medium.new) result }
+{
+    match test_medium(options.asked(), medium) {
+        Ok(()) => convert_tested(alloc, base, patches, part, coords, options, hash, medium),
         Err(error) => Err(StreamError::Convert(error)),
     }
 }
@@ -127,15 +178,11 @@ pub fn convert_patched<S: TileStore, P: TileStore, O: StreamOptions, M: Medium>(
     ensures base_kept { Keeps S.tells S.faults S.steady base.old base.new }
     ensures medium_kept { KeepsMedium M.told M.versions M.reads M.faults M.steady
         medium.old medium.new }
-    ensures base_still { OnOk result (S.faults base.new ≡ S.faults base.old) }
-    ensures patches_still { OnOk result (map P.faults patches.new.items
-        ≡ map P.faults patches.old.items) }
-    ensures medium_still { OnOk result (M.faults medium.new ≡ M.faults medium.old) }
+    ensures stores_still { StoresStand (S.faults base.old ∷ map P.faults patches.old.items)
+        (S.faults base.new ∷ map P.faults patches.new.items) result }
+    ensures medium_still { MediumStands (M.faults medium.old) (M.faults medium.new) result }
 {
-    match test_medium(options.asked(), medium) {
-        Ok(()) => convert_tested(alloc, base, patches, coords, options, hash, medium),
-        Err(error) => Err(StreamError::Convert(error)),
-    }
+    convert_part(alloc, base, patches, &None, coords, options, hash, medium)
 }
 
 /// Converts a set without patches to an archive, and reads the tiles at the coordinates from it, as `convert` does, in
@@ -179,8 +226,8 @@ pub fn convert_streamed<S: TileStore, O: StreamOptions, M: Medium>(
     ensures base_kept { Keeps S.tells S.faults S.steady base.old base.new }
     ensures medium_kept { KeepsMedium M.told M.versions M.reads M.faults M.steady
         medium.old medium.new }
-    ensures base_still { OnOk result (S.faults base.new ≡ S.faults base.old) }
-    ensures medium_still { OnOk result (M.faults medium.new ≡ M.faults medium.old) }
+    ensures stores_still { StoresStand (S.faults base.old ∷ []) (S.faults base.new ∷ []) result }
+    ensures medium_still { MediumStands (M.faults medium.old) (M.faults medium.new) result }
 {
     let mut none: Vec<MemStore> = Vec::new(alloc);
     convert_patched(alloc, base, &mut none, coords, options, hash, medium)

@@ -1,9 +1,10 @@
 // The hash of a marked set, where it is asked for, and its test against the stored one.
-ghost use Rattle.std.specs.Prelude.{◌≡◌, ◌≢◌, ◌||◌, Err, false, is_some, IfErr, IfOk, IfSome, OnOk, Some, true};
+ghost use Rattle.std.specs.Prelude.{◌≡◌, ◌≢◌, ◌||◌, Err, false, is_some, IfErr, IfOk, IfSome, Some, true};
 ghost use Rattle.std.specs.Str.{bytes_eq};
 ghost use Rattle.tile_streaming.specs.Common.{is_free, ReadsOnly};
 ghost use Rattle.tile_streaming.specs.Hashing.{HashCauses, IsHashOf, stored_hash};
 ghost use Rattle.tile_streaming.specs.PatchedSet.{stored_in};
+ghost use Rattle.tile_streaming.specs.Stands.{BaseStands};
 ghost use Rattle.tile_streaming.specs.Streaming.{IsHeld};
 
 use crate::StreamError;
@@ -44,7 +45,7 @@ fn verified_hash<S: TileStore>(
     ensures causes { HashCauses true (S.tells store.old) (stored_in set.now (S.told store.old))
         set.now.marked (S.faults store.old) (S.faults store.new) result }
     ensures kept { ReadsOnly S.told S.tells S.faults S.steady store.old store.new }
-    ensures still { OnOk result (S.faults store.new ≡ S.faults store.old) }
+    ensures still { BaseStands (S.faults store.old) (S.faults store.new) result }
 {
     let Some(stored) = set.marked.names.text(AGG_TILES_HASH) else {
         return Err(of_store(MbtError::AggHashValueNotFound));
@@ -74,7 +75,7 @@ pub(crate) fn hash_for<S: TileStore>(
     ensures causes { HashCauses verify (S.tells store.old) (stored_in set.now (S.told store.old))
         set.now.marked (S.faults store.old) (S.faults store.new) result }
     ensures kept { ReadsOnly S.told S.tells S.faults S.steady store.old store.new }
-    ensures still { OnOk result (S.faults store.new ≡ S.faults store.old) }
+    ensures still { BaseStands (S.faults store.old) (S.faults store.new) result }
 {
     if verify {
         return Ok(Some(verified_hash(alloc, store, set)?));

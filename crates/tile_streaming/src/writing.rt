@@ -1,21 +1,25 @@
 // The archive of marks, written to a medium with one content at a time.
-ghost use Rattle.std.specs.Prelude.{◌≡◌, ◌<◌, ◌^◌, ℕ, List, [], All, Option, false, true, length, IfSome, IfOk, OnOk, OnErr};
+ghost use Rattle.std.specs.Prelude.{◌≡◌, ◌<◌, ◌^◌, ℕ, List, [], All, Option, false, true, length, IfSome, IfOk, MatchOption, OnOk, OnErr};
 ghost use Rattle.pm_writer.specs.Adding.{WhereWrites, WritesSome};
 ghost use Rattle.tile_streaming.specs.Common.{add_to, AddFits, CanBeWritten, has_failed, IsEmpty, IsHidden, IsPlain, KeepsMedium, Options, OptionsFit, ReadsOnly, Took, Writes, xxh3_64};
 ghost use Rattle.tile_streaming.specs.Adding.{AreAdded, HaveLengths, IsAddedFor, IsTaken, adds_of};
+ghost use Rattle.tile_streaming.specs.Part.{part_in};
 ghost use Rattle.tile_streaming.specs.PatchedSet.{bytes_in, stored_in};
 ghost use Rattle.tile_streaming.specs.Sizing.{overflow_of};
+ghost use Rattle.tile_streaming.specs.Stands.{BaseStands, MediumStands};
 ghost use Rattle.tile_streaming.specs.Stored.{IsStored};
 ghost use Rattle.tile_streaming.specs.Written.{AddsCauses, IsChanged, StepCauses, WrittenLeaves};
 
 use crate::error::of_writer;
 use crate::finding::marked_row;
+use crate::part::chosen_marks;
 use crate::patched_set::PatchedSet;
 use crate::{Mark, StreamError};
 use mb_store::{Cell, Row, TileStore};
 use pm_format::Medium;
 use pm_writer::{ArchivePlaces, PmTilesWriter, WriterState};
 use std::alloc::Global;
+use tile_extract::IdIntervals;
 
 // Adds the contents of a mark, whose digest they have, under its id: those in a row, or those that the set holds.
 fn add_row<M: Medium>(
@@ -38,7 +42,7 @@ fn add_row<M: Medium>(
         → AddFits o adds mark.now.id taken)
         → AddsCauses (M.faults medium.old) (M.faults medium.new) result) }
     ensures kept { KeepsMedium M.told M.versions M.reads M.faults M.steady medium.old medium.new }
-    ensures still { OnOk result (M.faults medium.new ≡ M.faults medium.old) }
+    ensures still { MediumStands (M.faults medium.old) (M.faults medium.new) result }
 {
     let null = Cell::Null;
     let bytes = set.bytes_in(mark.id, row, &null);
@@ -74,8 +78,8 @@ fn add_mark<S: TileStore, M: Medium>(
     ensures store_kept { ReadsOnly S.told S.tells S.faults S.steady store.old store.new }
     ensures medium_kept { KeepsMedium M.told M.versions M.reads M.faults M.steady
         medium.old medium.new }
-    ensures store_still { OnOk result (S.faults store.new ≡ S.faults store.old) }
-    ensures medium_still { OnOk result (M.faults medium.new ≡ M.faults medium.old) }
+    ensures store_still { BaseStands (S.faults store.old) (S.faults store.new) result }
+    ensures medium_still { MediumStands (M.faults medium.old) (M.faults medium.new) result }
 {
     if mark.length == 0 {
         return Ok(());
@@ -109,8 +113,8 @@ fn add_marks<S: TileStore, M: Medium>(
     ensures store_kept { ReadsOnly S.told S.tells S.faults S.steady store.old store.new }
     ensures medium_kept { KeepsMedium M.told M.versions M.reads M.faults M.steady
         medium.old medium.new }
-    ensures store_still { OnOk result (S.faults store.new ≡ S.faults store.old) }
-    ensures medium_still { OnOk result (M.faults medium.new ≡ M.faults medium.old) }
+    ensures store_still { BaseStands (S.faults store.old) (S.faults store.new) result }
+    ensures medium_still { MediumStands (M.faults medium.old) (M.faults medium.new) result }
 {
     for mark in marks {
         add_mark(alloc, store, set, mark, state, medium)?;
@@ -118,45 +122,85 @@ fn add_marks<S: TileStore, M: Medium>(
     Ok(())
 }
 
-/// Writes the archive of marks with options to an empty medium. The options label directories `None`.
-///
-/// A fault comes only where the count of faults of the store or of the medium rose, and `StoreChanged` only over a
-/// store that tells nothing; no other refusal comes but want of memory. After each of them no part of an archive is
-/// shown.
-pub(crate) fn write_marked<S: TileStore, M: Medium>(
+// Writes the archive of marks of a set with options to an empty medium.
+fn write_marked<S: TileStore, M: Medium>(
     alloc: Global,
     store: &mut S,
     set: &PatchedSet,
+    marks: &[Mark],
     options: &PmTilesWriter,
     medium: &mut M,
 ) -> Result<ArchivePlaces, StreamError>
     requires empty { IsEmpty (M.told medium.old) }
     requires plain { IsPlain options.now }
     requires metadata { length options.now.metadata < 2 ^ 63 }
-    requires size { overflow_of set.now.marked.marks.items ≡ false }
-    requires can { (contents : List (List ℕ)) → HaveLengths set.now.marked.marks.items contents
-        → CanBeWritten options.now (adds_of set.now.marked.marks.items contents) }
+    requires size { overflow_of marks.now ≡ false }
+    requires can { (contents : List (List ℕ)) → HaveLengths marks.now contents
+        → CanBeWritten options.now (adds_of marks.now contents) }
     requires stored { S.tells store.old ≡ true
-        → All (IsStored (stored_in set.now (S.told store.old))) set.now.marked.marks.items }
+        → All (IsStored (stored_in set.now (S.told store.old))) marks.now }
     ensures leaves { WrittenLeaves options.now (S.tells store.old)
-        (stored_in set.now (S.told store.old)) set.now.marked.marks.items
+        (stored_in set.now (S.told store.old)) marks.now
         (M.told medium.old) (M.told medium.new) result }
     ensures causes { StepCauses (S.tells store.old ≡ false) (S.faults store.old)
         (S.faults store.new) (M.faults medium.old) (M.faults medium.new) result }
     ensures store_kept { ReadsOnly S.told S.tells S.faults S.steady store.old store.new }
     ensures medium_kept { KeepsMedium M.told M.versions M.reads M.faults M.steady
         medium.old medium.new }
-    ensures store_still { OnOk result (S.faults store.new ≡ S.faults store.old) }
-    ensures medium_still { OnOk result (M.faults medium.new ≡ M.faults medium.old) }
+    ensures store_still { BaseStands (S.faults store.old) (S.faults store.new) result }
+    ensures medium_still { MediumStands (M.faults medium.old) (M.faults medium.new) result }
 {
     let mut state = match options.start(alloc, medium) {
         Ok(state) => state,
         Err(error) => return Err(of_writer(error)),
     };
-    state.reserve(set.marked.marks.len())?;
-    add_marks(alloc, store, set, &set.marked.marks, &mut state, medium)?;
+    state.reserve(marks.len())?;
+    add_marks(alloc, store, set, marks, &mut state, medium)?;
     match state.finalize(medium) {
         Ok(places) => Ok(places),
         Err(error) => Err(of_writer(error)),
     }
+}
+
+/// Writes the archive of a part of a set with options to an empty medium. The options label directories `None`, and
+/// `found` are the marks of the part, where they aren't all.
+///
+/// A fault comes only where the count of faults of the store or of the medium rose, and `StoreChanged` only over a
+/// store that tells nothing; no other refusal comes but want of memory. After each of them no part of an archive is
+/// shown.
+pub(crate) fn write_part<S: TileStore, M: Medium>(
+    alloc: Global,
+    store: &mut S,
+    set: &PatchedSet,
+    part: &Option<IdIntervals>,
+    found: &Option<Vec<Mark>>,
+    options: &PmTilesWriter,
+    medium: &mut M,
+) -> Result<ArchivePlaces, StreamError>
+    requires kept { MatchOption found.now
+        (part_in part.now set.now.marked ≡ set.now.marked.marks.items)
+        (λ kept. part_in part.now set.now.marked ≡ kept.items) }
+    requires empty { IsEmpty (M.told medium.old) }
+    requires plain { IsPlain options.now }
+    requires metadata { length options.now.metadata < 2 ^ 63 }
+    requires size { overflow_of (part_in part.now set.now.marked) ≡ false }
+    requires can { (contents : List (List ℕ))
+        → HaveLengths (part_in part.now set.now.marked) contents
+        → CanBeWritten options.now (adds_of (part_in part.now set.now.marked) contents) }
+    requires stored { S.tells store.old ≡ true
+        → All (IsStored (stored_in set.now (S.told store.old)))
+        (part_in part.now set.now.marked) }
+    ensures leaves { WrittenLeaves options.now (S.tells store.old)
+        (stored_in set.now (S.told store.old)) (part_in part.now set.now.marked)
+        (M.told medium.old) (M.told medium.new) result }
+    ensures causes { StepCauses (S.tells store.old ≡ false) (S.faults store.old)
+        (S.faults store.new) (M.faults medium.old) (M.faults medium.new) result }
+    ensures store_kept { ReadsOnly S.told S.tells S.faults S.steady store.old store.new }
+    ensures medium_kept { KeepsMedium M.told M.versions M.reads M.faults M.steady
+        medium.old medium.new }
+    ensures store_still { BaseStands (S.faults store.old) (S.faults store.new) result }
+    ensures medium_still { MediumStands (M.faults medium.old) (M.faults medium.new) result }
+{
+    let marks = chosen_marks(found, set);
+    write_marked(alloc, store, set, marks, options, medium)
 }

@@ -11,7 +11,7 @@ pub use Rattle.std.proofs.lemmas.Bool.Decides.{nat_tests}
 pub use Rattle.std.proofs.lemmas.List.{drop-append-le, drop_all, drop_at, length-take-le, take-append-drop, take-append-le, take_all, take_at}
 pub use Rattle.std.specs.Result.{IsErrAnd}
 pub use Rattle.tile_bridge.specs.Outcome.{due}
-pub use Rattle.tile_bridge.specs.declared.error.ConvertError.TheVariants.{MediumFault, OutOfMemory, ReadBack, StoreFault}
+pub use Rattle.tile_bridge.specs.declared.error.ConvertError.TheVariants.{StoreFault}
 pub use Rattle.tile_bridge.specs.declared.options.ConvertOptions.{ConvertOptions}
 pub use Rattle.tileset.specs.Common.{archive_map, command, ConvertCauses, ConvertError, ConvertLeaves, ConvertReport, Coord, encode_lower, Gains, GainsFront, HasAggregate, id_of, IsArchiveOf, IsAtEnd}
 pub use Rattle.tileset.specs.Common.{IsEmpty, IsShort, KeepsMedium, KeepsSink, LeavesPart, list_all, outcome, places_read, Script, script_text}

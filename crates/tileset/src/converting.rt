@@ -1,7 +1,8 @@
 // The conversion of a script's stores, which are tables in memory and don't fail.
-ghost use Rattle.std.specs.Prelude.{◌≡◌, All, Some, IfErr, IfOk, IsErrOf, OnOk, map};
+ghost use Rattle.std.specs.Prelude.{◌≡◌, All, Some, IfErr, IfOk, IsErrOf, map};
 ghost use Rattle.tileset.specs.Common.{ConvertCauses, ConvertLeaves, HasAggregate, KeepsMedium, outcome, Rose};
 ghost use Rattle.mb_store.specs.MemStore.{told_of};
+ghost use Rattle.tile_bridge.specs.Stands.{MediumStands};
 ghost use Rattle.tileset_script.specs.Section.{NeverFails};
 ghost use Rattle.tileset.specs.Converting.{IsNoStoreFault, options_for};
 ghost use Rattle.tileset.specs.Printed.{IsOfDue};
@@ -50,7 +51,7 @@ pub(crate) fn convert_stores<M: Medium>(
         → Rose (M.faults medium.old) (M.faults medium.new) }
     ensures medium_kept { KeepsMedium M.told M.versions M.reads M.faults M.steady
         medium.old medium.new }
-    ensures medium_still { OnOk result (M.faults medium.new ≡ M.faults medium.old) }
+    ensures medium_still { MediumStands (M.faults medium.old) (M.faults medium.new) result }
 {
     let options = convert_options(options);
     convert_owned(alloc, base, patches, coords, &options, medium)

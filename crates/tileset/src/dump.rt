@@ -5,7 +5,7 @@ ghost use Rattle.tileset.specs.Dump.{DumpCauses, HasLength};
 ghost use Rattle.tileset.specs.HexDump.{hex_dump};
 ghost use Rattle.tileset.specs.Printed.{Grows};
 ghost use Rattle.tileset.specs.Run.{outcome_of};
-ghost use Rattle.tileset.specs.Stands.{OutputStands, ReportStands};
+ghost use Rattle.tileset.specs.Stands.{MediumStands, OutputStands};
 
 use crate::hex_dump::push_hex_dump;
 use crate::{Outcome, Sink, write_all};
@@ -42,7 +42,7 @@ fn write_piece<O: Sink, M: Medium>(
         medium.old medium.new }
     ensures output_still { OutputStands (O.faults output.old) (O.faults output.new)
         (outcome_of result) }
-    ensures medium_still { ReportStands (M.faults medium.old) (M.faults medium.new)
+    ensures medium_still { MediumStands (M.faults medium.old) (M.faults medium.new)
         (outcome_of result) }
 {
     let response = medium.read_exact(alloc, at, size)?;
@@ -76,7 +76,7 @@ pub(crate) fn write_dump<O: Sink, M: Medium>(
         medium.old medium.new }
     ensures output_still { OutputStands (O.faults output.old) (O.faults output.new)
         (outcome_of result) }
-    ensures medium_still { ReportStands (M.faults medium.old) (M.faults medium.new)
+    ensures medium_still { MediumStands (M.faults medium.old) (M.faults medium.new)
         (outcome_of result) }
 {
     let mut text = Vec::new(alloc);

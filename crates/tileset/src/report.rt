@@ -5,7 +5,7 @@ ghost use Rattle.tileset.specs.Places.{places_text};
 ghost use Rattle.tileset.specs.Printed.{Prints};
 ghost use Rattle.tileset.specs.Report.{report_text};
 ghost use Rattle.tileset.specs.Run.{IsReported, LinesCauses, ReportCauses, command_text, outcome_of};
-ghost use Rattle.tileset.specs.Stands.{OutputStands, ReportStands};
+ghost use Rattle.tileset.specs.Stands.{MediumStands, OutputStands};
 ghost use Rattle.tileset.specs.Summary.{summary};
 
 use crate::dump::write_dump;
@@ -67,7 +67,7 @@ fn write_hex_report<O: Sink, M: Medium>(
         medium.old medium.new }
     ensures output_still { OutputStands (O.faults output.old) (O.faults output.new)
         (outcome_of result) }
-    ensures medium_still { ReportStands (M.faults medium.old) (M.faults medium.new)
+    ensures medium_still { MediumStands (M.faults medium.old) (M.faults medium.new)
         (outcome_of result) }
 {
     write_summary(alloc, queries, report, output)?;
@@ -125,7 +125,7 @@ pub(crate) fn write_report<O: Sink, M: Medium>(
         medium.old medium.new }
     ensures output_still { OutputStands (O.faults output.old) (O.faults output.new)
         (outcome_of result) }
-    ensures medium_still { ReportStands (M.faults medium.old) (M.faults medium.new)
+    ensures medium_still { MediumStands (M.faults medium.old) (M.faults medium.new)
         (outcome_of result) }
 {
     match command {

@@ -62,8 +62,7 @@ pub fn run<I: Source, O: Sink, M: Medium>(
     // Counts stand at Done, and at the answers that the definitions don't leave out.
     ensures input_still { InputStands (I.faults input.old) (I.faults input.new) result }
     ensures output_still { OutputStands (O.faults output.old) (O.faults output.new) result }
-    ensures medium_still { MediumStands (O.held output.old) (O.held output.new)
-        (M.faults medium.old) (M.faults medium.new) result }
+    ensures medium_still { MediumStands (M.faults medium.old) (M.faults medium.new) result }
 {
     match attempt(alloc, words, input, output, medium) {
         Ok(()) => Outcome::Done,
@@ -98,8 +97,8 @@ fn convert_script<O: Sink, M: Medium>(
         medium.old medium.new }
     ensures output_still { OutputStands (O.faults output.old) (O.faults output.new)
         (outcome_of result) }
-    ensures medium_still { MediumStands (O.held output.old) (O.held output.new)
-        (M.faults medium.old) (M.faults medium.new) (outcome_of result) }
+    ensures medium_still { MediumStands (M.faults medium.old) (M.faults medium.new)
+        (outcome_of result) }
 {
     let ParsedScript {
         options,
@@ -149,8 +148,8 @@ fn attempt<I: Source, O: Sink, M: Medium>(
         (outcome_of result) }
     ensures output_still { OutputStands (O.faults output.old) (O.faults output.new)
         (outcome_of result) }
-    ensures medium_still { MediumStands (O.held output.old) (O.held output.new)
-        (M.faults medium.old) (M.faults medium.new) (outcome_of result) }
+    ensures medium_still { MediumStands (M.faults medium.old) (M.faults medium.new)
+        (outcome_of result) }
 {
     let Some(command) = command_of(words) else {
         return Err(Outcome::Usage);

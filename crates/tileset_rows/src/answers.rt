@@ -60,6 +60,14 @@ pub fn named(alloc: Global, out: &mut String, name: &str) -> Option<()> {
     said_outcome(alloc, out, outcome)
 }
 
+/// Appends byte 97 of a medium, the label of directories, where it has one.
+pub fn say_label(out: &mut String, bytes: &[u8]) -> Option<()> {
+    match bytes.get(97) {
+        Some(label) => write!(out, "|{label}").ok(),
+        None => write!(out, "|none").ok(),
+    }
+}
+
 /// Appends a text that isn't the one before.
 pub fn say_other(alloc: Global, out: &mut String, last: &mut String, text: &str) -> Option<()> {
     if last.as_str() == text {

@@ -1,13 +1,15 @@
 // Conversions that hold no contents, over a store that changes between the readings.
-use crate::answers::said_outcome;
+use crate::answers::{said_outcome, say_label};
 use crate::fields::{Fields, bytes_of};
-use crate::stores::{options_of, script_of, whole};
+use crate::parts::{part_converted, part_of};
+use crate::stores::{Options, converted, options_of, script_of};
 use base_values::TextVal;
 use mb_store::{Changes, MemStore, Row, RowKey, StoreError, TableDesc, TableName, TileStore};
 use pm_format::MemMedium;
 use std::alloc::Global;
-use std::fmt::Write;
-use tile_streaming::{convert_patched, convert_streamed};
+use tile_bridge::{ConvertError, ConvertOptions, ConvertReport};
+use tile_extract::IdIntervals;
+use tile_ids::TileCoord;
 use tileset::Outcome;
 use tileset_script::ParsedScript;
 
@@ -103,11 +105,34 @@ fn key_of(alloc: Global, fields: &mut Fields) -> Option<RowKey> {
     }
 }
 
+// A conversion over a changing store, with the options of a script: of a part, or by the call for all tiles.
+fn answered(
+    alloc: Global,
+    store: &mut Changing,
+    (options, patches, coords): (&ConvertOptions, &mut Vec<MemStore>, &[TileCoord]),
+    part: Option<IdIntervals>,
+    medium: &mut MemMedium,
+) -> Result<ConvertReport, ConvertError> {
+    if part.is_some() {
+        let asked = (options, Options::Streamed);
+        return part_converted(alloc, (store, patches), &part, coords, asked, medium);
+    }
+    converted(
+        alloc,
+        store,
+        patches,
+        coords,
+        options,
+        Options::Streamed,
+        medium,
+    )
+}
+
 // Appends how a conversion over a changing store ends, and what stands at byte 97 of the medium.
 fn say_changed(
     alloc: Global,
     out: &mut String,
-    script: ParsedScript,
+    (script, part): (ParsedScript, Option<IdIntervals>),
     changed: u64,
     other: Option<RowKey>,
 ) -> Option<()> {
@@ -125,36 +150,36 @@ fn say_changed(
     };
     let mut medium = MemMedium::new(alloc);
     let options = options_of(options);
-    let coords = queries.as_slice();
-    let answer = if patches.is_empty() {
-        convert_streamed(alloc, &mut store, coords, &options, false, &mut medium)
-    } else {
-        convert_patched(
-            alloc,
-            &mut store,
-            &mut patches,
-            coords,
-            &options,
-            false,
-            &mut medium,
-        )
-    };
-    match whole(alloc, answer) {
+    let asked = (&options, &mut patches, queries.as_slice());
+    match answered(alloc, &mut store, asked, part, &mut medium) {
         Ok(_) => said_outcome(alloc, out, Outcome::Done)?,
         Err(error) => said_outcome(alloc, out, Outcome::Refused(error))?,
     }
-    match medium.as_bytes().get(97) {
-        Some(label) => write!(out, "|{label}").ok(),
-        None => write!(out, "|none").ok(),
-    }
+    say_label(out, medium.as_bytes())
+}
+
+// The fields of a case behind those of a part.
+fn answer_of(
+    alloc: Global,
+    out: &mut String,
+    fields: &mut Fields,
+    part: Option<IdIntervals>,
+) -> Option<()> {
+    let script = bytes_of(alloc, fields.next())?;
+    let changed = fields.next().parse::<u64>().ok()?;
+    let other = key_of(alloc, fields);
+    let script = script_of(alloc, script.as_slice())?;
+    say_changed(alloc, out, (script, part), changed, other)
 }
 
 /// A case of a script, the number of a row that is sought, and the key of the row that is found in its place, if any:
 /// three numbers, or `text` or `number` and an id. How the conversion ends, and byte 97 of the medium.
 pub fn answer(alloc: Global, out: &mut String, fields: &mut Fields) -> Option<()> {
-    let script = bytes_of(alloc, fields.next())?;
-    let changed = fields.next().parse::<u64>().ok()?;
-    let other = key_of(alloc, fields);
-    let script = script_of(alloc, script.as_slice())?;
-    say_changed(alloc, out, script, changed, other)
+    answer_of(alloc, out, fields, None)
+}
+
+/// The same of the part that intervals are, which stand in front.
+pub fn of_part(alloc: Global, out: &mut String, fields: &mut Fields) -> Option<()> {
+    let part = part_of(alloc, fields.next())?;
+    answer_of(alloc, out, fields, part)
 }

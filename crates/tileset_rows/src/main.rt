@@ -8,11 +8,16 @@ mod answers;
 mod changing;
 mod counted;
 mod fields;
+mod filled;
+mod front_medium;
 mod hindered;
 mod in_memory;
 mod many;
+mod measured;
 mod on_file;
 mod other;
+mod parts;
+mod redescribed;
 mod running;
 mod said;
 mod short_medium;
@@ -20,6 +25,7 @@ mod single_bytes;
 mod stores;
 mod turned;
 mod turned_medium;
+mod twice;
 mod views;
 
 use fields::Fields;
@@ -40,6 +46,7 @@ impl Rows for Cases {
             "each" => counted::each(alloc, out, &mut fields),
             "reads" => counted::reads(alloc, out, &mut fields),
             "short" => other::short(alloc, out, &mut fields),
+            "short-streamed" => other::short_streamed(alloc, out, &mut fields),
             "single" => other::single(alloc, out, &mut fields),
             "streams" => other::streams(alloc, out, &mut fields),
             "versions" => other::versions(alloc, out, &mut fields),
@@ -49,17 +56,24 @@ impl Rows for Cases {
             "streamed" => said::answer(alloc, out, &mut fields, Options::Streamed),
             "hashed" => said::answer(alloc, out, &mut fields, Options::Hashed),
             "streamed-said" => said::answer(alloc, out, &mut fields, Options::StreamedSet),
+            "part" => parts::answer(alloc, out, &mut fields),
+            "parts-joined" => parts::joined(alloc, out, &mut fields),
             "changing" => changing::answer(alloc, out, &mut fields),
+            "changing-part" => changing::of_part(alloc, out, &mut fields),
+            "redescribed" => redescribed::answer(alloc, out, &mut fields),
             "hindered-said" => hindered::answer(alloc, out, &mut fields, Options::Set),
             "hindered-streamed" => hindered::answer(alloc, out, &mut fields, Options::Streamed),
             "hindered-hashed" => hindered::answer(alloc, out, &mut fields, Options::Hashed),
             "hindered-streamed-said" => {
                 hindered::answer(alloc, out, &mut fields, Options::StreamedSet)
             }
+            "twice" => twice::answer(alloc, out, &mut fields),
             "asked" => said::asked(alloc, out, &mut fields),
             "views" => views::answer(alloc, out, &mut fields),
-            "turned" => turned::answer(alloc, out, &mut fields),
+            "turned" => turned::answer(alloc, out, &mut fields, Options::Script),
+            "turned-streamed" => turned::answer(alloc, out, &mut fields, Options::Streamed),
             "many" => many::answer(alloc, out, &mut fields),
+            "measure" => measured::answer(alloc, out, &mut fields),
             "file" => on_file::answer(rt, alloc, out, &mut fields),
             "outcome" => answers::named(alloc, out, fields.next()),
             _ => None,

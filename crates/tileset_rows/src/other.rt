@@ -5,12 +5,14 @@ use crate::in_memory::{Ended, run_calm};
 use crate::running::run;
 use crate::short_medium::ShortMedium;
 use crate::single_bytes::{SingleBytesSink, SingleBytesSource};
+use crate::stores::{Options, converted, options_of, script_of};
 use base_values::TextVal;
 use bytes::Bytes;
 use pm_format::MemMedium;
 use std::alloc::Global;
 use std::io::Cursor;
 use tileset::{MemSink, MemSource, Outcome, StdSink, StdSource};
+use tileset_script::ParsedScript;
 
 fn said_output(alloc: Global, out: &mut String, outcome: Outcome, output: &[u8]) -> Option<()> {
     said_outcome(alloc, out, outcome)?;
@@ -39,6 +41,41 @@ pub fn short(alloc: Global, out: &mut String, fields: &mut Fields) -> Option<()>
     let ended = run_calm(alloc, &words, script.clone().ok()?);
     let front = front_of(alloc, ended, size)?;
     said_outcome(alloc, out, short_outcome(alloc, &words, script, front))
+}
+
+// The same of a conversion over stores that holds no contents.
+fn short_stream(alloc: Global, script: ParsedScript, front: Bytes) -> Outcome {
+    let ParsedScript {
+        options,
+        mut base,
+        mut patches,
+        queries,
+    } = script;
+    let mut medium = ShortMedium::new(front);
+    let answer = converted(
+        alloc,
+        &mut base,
+        &mut patches,
+        queries.as_slice(),
+        &options_of(options),
+        Options::Streamed,
+        &mut medium,
+    );
+    match answer {
+        Ok(_) => Outcome::Done,
+        Err(error) => Outcome::from(error),
+    }
+}
+
+/// The same of a conversion over stores that holds no contents.
+pub fn short_streamed(alloc: Global, out: &mut String, fields: &mut Fields) -> Option<()> {
+    let size = fields.next().parse::<usize>().ok()?;
+    let words = words_of(alloc, "convert hex")?;
+    let script = bytes_of(alloc, fields.next())?;
+    let parsed = script_of(alloc, script.as_slice())?;
+    let ended = run_calm(alloc, &words, script);
+    let front = front_of(alloc, ended, size)?;
+    said_outcome(alloc, out, short_stream(alloc, parsed, front))
 }
 
 // A medium whose version texts change.

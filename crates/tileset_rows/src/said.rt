@@ -2,11 +2,12 @@
 // words that ask for them.
 use crate::answers::{said_outcome, say, say_bytes};
 use crate::fields::{Fields, bytes_of, words_of};
-use crate::stores::{Options, converted, say_store, script_of};
+use crate::stores::{Options, converted, options_of, say_store, script_of};
 use base_values::{BlobVal, TextVal};
 use pm_format::MemMedium;
 use set_conversion::{
-    ConversionFlags, ConversionOutcome, asked_of, conversion_status, conversion_text,
+    ConversionFlags, ConversionOutcome, SetPart, asked_of, conversion_status, conversion_text,
+    part_intervals,
 };
 use std::alloc::Global;
 use std::fmt::Write;
@@ -57,7 +58,8 @@ fn said_done(alloc: Global, out: &mut String, report: ConvertReport) -> Option<(
     )
 }
 
-fn said_end(
+/// Appends how a conversion ends.
+pub fn said_end(
     alloc: Global,
     out: &mut String,
     answer: Result<ConvertReport, ConvertError>,
@@ -68,8 +70,8 @@ fn said_end(
     }
 }
 
-// Appends how many bytes a medium has, and these or their digest.
-fn say_medium(alloc: Global, out: &mut String, medium: &MemMedium) -> Option<()> {
+/// Appends how many bytes a medium has, and these or their digest.
+pub fn say_medium(alloc: Global, out: &mut String, medium: &MemMedium) -> Option<()> {
     let length = medium.as_bytes().len();
     write!(out, "|{length}|").ok()?;
     say_bytes(alloc, out, medium.as_bytes(), 64)
@@ -95,7 +97,7 @@ fn shown(
         &mut base,
         &mut patches,
         coords,
-        given,
+        &options_of(given),
         options,
         &mut medium,
     );
@@ -119,8 +121,25 @@ pub fn answer(
     shown(alloc, out, script, options, MemMedium::from_bytes(held))
 }
 
-// Appends flags by their names, and the number of files.
-fn say_asked(out: &mut String, flags: ConversionFlags, files: &[TextVal]) -> Option<()> {
+// Appends the ids of a part, where it isn't the whole set.
+fn say_part(alloc: Global, out: &mut String, part: SetPart) -> Option<()> {
+    let Some(intervals) = part_intervals(alloc, part).ok()? else {
+        return Some(());
+    };
+    say(out, "ids ")?;
+    for (first, last) in intervals.as_slice() {
+        write!(out, "{first}-{last} ").ok()?;
+    }
+    Some(())
+}
+
+// Appends flags by their names, the ids of a part, and the number of files.
+fn say_asked(
+    alloc: Global,
+    out: &mut String,
+    flags: ConversionFlags,
+    files: &[TextVal],
+) -> Option<()> {
     let names = [
         ("force", flags.force),
         ("verify", flags.verify),
@@ -133,15 +152,16 @@ fn say_asked(out: &mut String, flags: ConversionFlags, files: &[TextVal]) -> Opt
             write!(out, "{name} ").ok()?;
         }
     }
+    say_part(alloc, out, flags.part)?;
     let count = files.len();
     write!(out, "{count}").ok()
 }
 
-/// A case of words: the flags and how many files they ask for, or that it is nothing.
+/// A case of words: the flags, the ids of a part and how many files they ask for, or that it is nothing.
 pub fn asked(alloc: Global, out: &mut String, fields: &mut Fields) -> Option<()> {
     let words = words_of(alloc, fields.next())?;
     match asked_of(alloc, &words).ok()? {
-        Some((flags, files)) => say_asked(out, flags, files.as_slice()),
+        Some((flags, files)) => say_asked(alloc, out, flags, files.as_slice()),
         None => say(out, "none"),
     }
 }

@@ -145,19 +145,18 @@ pub fn converted<S: TileStore, P: TileStore, M: Medium>(
     base: &mut S,
     patches: &mut Vec<P>,
     coords: &[TileCoord],
-    script: ScriptOptions,
+    given: &ConvertOptions,
     options: Options,
     medium: &mut M,
 ) -> Result<ConvertReport, ConvertError> {
-    let given = options_of(script);
     match options {
-        Options::Script => convert(alloc, base, patches, coords, &given, medium),
+        Options::Script => convert(alloc, base, patches, coords, given, medium),
         Options::Set => {
             let said = OptionsOfSet::new(given.force, given.verify);
             convert(alloc, base, patches, coords, &said, medium)
         }
-        Options::Streamed => { streamed(alloc, (base, patches), coords, &given, false, medium) }
-        Options::Hashed => { streamed(alloc, (base, patches), coords, &given, true, medium) }
+        Options::Streamed => { streamed(alloc, (base, patches), coords, given, false, medium) }
+        Options::Hashed => { streamed(alloc, (base, patches), coords, given, true, medium) }
         Options::StreamedSet => {
             let said = OptionsOfSet::new(given.force, given.verify);
             streamed(alloc, (base, patches), coords, &said, false, medium)
@@ -187,7 +186,7 @@ pub fn shown(
         &mut base,
         &mut patches,
         coords,
-        given,
+        &options_of(given),
         options,
         &mut medium,
     ) {

@@ -1,30 +1,34 @@
 // A conversion over a medium of which a byte is read with all its bits turned over.
 use crate::answers::{said_outcome, say};
 use crate::fields::{Fields, bytes_of};
-use crate::stores::{options_of, script_of};
+use crate::stores::{Options, converted, options_of, script_of};
 use crate::turned_medium::TurnedMedium;
 use base_values::BlobVal;
 use std::alloc::Global;
 use std::fmt::Write;
-use tile_bridge::{ConvertError, ConvertReport, convert};
+use tile_bridge::{ConvertError, ConvertReport};
 use tileset::Outcome;
 use tileset_script::ParsedScript;
 
-fn converted(alloc: Global, script: ParsedScript) -> Result<ConvertReport, ConvertError> {
+fn over_turned(
+    alloc: Global,
+    script: ParsedScript,
+    options: Options,
+) -> Result<ConvertReport, ConvertError> {
     let ParsedScript {
-        options,
+        options: given,
         mut base,
         mut patches,
         queries,
     } = script;
     let mut medium = TurnedMedium::new(alloc);
-    let options = options_of(options);
-    convert(
+    converted(
         alloc,
         &mut base,
         &mut patches,
         &queries,
-        &options,
+        &options_of(given),
+        options,
         &mut medium,
     )
 }
@@ -47,9 +51,14 @@ fn said_report(alloc: Global, out: &mut String, report: ConvertReport) -> Option
 }
 
 /// A case of a script: its conversion, and the tiles that are asked for.
-pub fn answer(alloc: Global, out: &mut String, fields: &mut Fields) -> Option<()> {
+pub fn answer(
+    alloc: Global,
+    out: &mut String,
+    fields: &mut Fields,
+    options: Options,
+) -> Option<()> {
     let script = bytes_of(alloc, fields.next())?;
-    match converted(alloc, script_of(alloc, &script)?) {
+    match over_turned(alloc, script_of(alloc, &script)?, options) {
         Ok(report) => said_report(alloc, out, report),
         Err(error) => said_outcome(alloc, out, Outcome::Refused(error)),
     }

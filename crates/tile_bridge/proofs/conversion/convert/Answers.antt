@@ -1,10 +1,10 @@
-use Rattle.tile_bridge.proofs.Common.{ap, arith, ConvertCauses, ConvertOptions, due, IsEmpty, IsStored, Leaves, length-map, map, not, rules, SetCauses, subst, sym, unwrap_or, ◌∙◌}
+use Rattle.tile_bridge.proofs.Common.{ap, arith, ConvertCauses, ConvertOptions, due, IsEmpty, IsStored, Leaves, length-map, map, MediumFault, not, refl, rules, SetCauses, subst, sym, unwrap_or, ◌∙◌, ◌∷◌}
 use Rattle.tile_bridge.proofs.BaseLemmas.{base_of}
 use Rattle.tile_bridge.proofs.ConvertLemmas.{none_told}
 use Rattle.tile_bridge.proofs.FoldLemmas.{as_long}
 use Rattle.tile_bridge.proofs.LeavesLemmas.{of_set}
 use Rattle.tile_bridge.proofs.OutcomeLemmas.{refused_causes, set_causes, store_refuses}
-use Rattle.mb_store.proofs.FaultLemmas.{still_anyway, still_then}
+use Rattle.tile_bridge.proofs.StandsLemmas.{base_stands, medium_after, medium_anyway, medium_handed, stores_after, stores_anyway, stores_handed}
 use Rattle.tile_bridge.proofs.conversion.convert.Goals as goal
 
 pub returns-in_err-store_patches-clause-causes : goal.returns-in_err-store_patches-clause-causes
@@ -51,11 +51,37 @@ returns-clause-leaves g c =
     (λ u. subst (λ a. IsStored (not c.is_empty.result) c.in_ok-set.set a base_now) c.in_ok-set.ensures.base_kept.told (c.in_ok-store_patches.ensures.stored (c.in_ok-set.ensures.base_kept.tells ∙ u)))
     (λ u. g.met.S.TileStore.sound c.store_patches.new.base (c.in_ok-store_patches.ensures.kept.tells ∙ c.in_ok-set.ensures.base_kept.tells ∙ u))))
 
-pub returns-clause-base_still : goal.returns-clause-base_still
-returns-clause-base_still g c = still_anyway c.convert_set.result (c.in_ok-store_patches.ensures.still ∙ c.in_ok-set.ensures.base_still)
+pub returns-in_err-length-clause-stores_still : goal.returns-in_err-length-clause-stores_still
+returns-in_err-length-clause-stores_still g c = stores_anyway _ _ c.from_residual.result refl
 
-pub returns-clause-patches_still : goal.returns-clause-patches_still
-returns-clause-patches_still g c = still_anyway c.convert_set.result c.in_ok-set.ensures.patches_still
+pub returns-in_err-set-clause-stores_still : goal.returns-in_err-set-clause-stores_still
+returns-in_err-set-clause-stores_still g c = stores_handed _ _ c.in_err-set.field-0.0 c.from_residual-in_err-set.result c.in_err-set.ensures.still c.from_residual-in_err-set.ensures.1
+
+pub returns-in_err-made-clause-stores_still : goal.returns-in_err-made-clause-stores_still
+returns-in_err-made-clause-stores_still g c = stores_anyway _ _ c.from_residual-in_err-made.result c.in_ok-set.ensures.still
+
+pub returns-in_err-store_patches-clause-stores_still : goal.returns-in_err-store_patches-clause-stores_still
+returns-in_err-store_patches-clause-stores_still g c =
+    let patches = map g.P.TileStore.faults c.resolve.new.patches.items in
+    stores_after (g.S.TileStore.faults c.args.base.now ∷ map g.P.TileStore.faults c.args.patches.now.items) (g.S.TileStore.faults c.resolve.new.base ∷ patches) (g.S.TileStore.faults c.store_patches.new.base ∷ patches) c.from_residual-in_err-store_patches.result c.in_ok-set.ensures.still
+    (base_stands (g.S.TileStore.faults c.resolve.new.base) (g.S.TileStore.faults c.store_patches.new.base) patches c.in_err-store_patches.field-0.0 c.from_residual-in_err-store_patches.result c.in_err-store_patches.ensures.placed c.from_residual-in_err-store_patches.ensures.1)
+
+pub returns-clause-stores_still : goal.returns-clause-stores_still
+returns-clause-stores_still g c =
+    let patches = map g.P.TileStore.faults c.resolve.new.patches.items in
+    stores_anyway (g.S.TileStore.faults c.args.base.now ∷ map g.P.TileStore.faults c.args.patches.now.items) (g.S.TileStore.faults c.store_patches.new.base ∷ patches) c.convert_set.result (ap (λ n. n ∷ patches) c.in_ok-store_patches.ensures.still ∙ c.in_ok-set.ensures.still)
+
+pub returns-in_err-length-clause-medium_still : goal.returns-in_err-length-clause-medium_still
+returns-in_err-length-clause-medium_still g c = medium_handed _ _ MediumFault c.from_residual.result tt c.from_residual.ensures.1
+
+pub returns-in_err-set-clause-medium_still : goal.returns-in_err-set-clause-medium_still
+returns-in_err-set-clause-medium_still g c = medium_anyway _ _ c.from_residual-in_err-set.result c.in_ok-length.ensures.still
+
+pub returns-in_err-made-clause-medium_still : goal.returns-in_err-made-clause-medium_still
+returns-in_err-made-clause-medium_still g c = medium_anyway _ _ c.from_residual-in_err-made.result c.in_ok-length.ensures.still
+
+pub returns-in_err-store_patches-clause-medium_still : goal.returns-in_err-store_patches-clause-medium_still
+returns-in_err-store_patches-clause-medium_still g c = medium_anyway _ _ c.from_residual-in_err-store_patches.result c.in_ok-length.ensures.still
 
 pub returns-clause-medium_still : goal.returns-clause-medium_still
-returns-clause-medium_still g c = still_then c.convert_set.result (λ stands. stands ∙ c.in_ok-length.ensures.still) c.convert_set.ensures.still
+returns-clause-medium_still g c = medium_after _ _ _ c.convert_set.result c.in_ok-length.ensures.still c.convert_set.ensures.still

@@ -1,5 +1,6 @@
-use Rattle.tile_bridge.proofs.Common.{ap, archive, IfSome, is_some, IsHiddenOr, List, places_of, shown, subst, TookAll, ℕ, ◌∙◌, ◌≡◌}
+use Rattle.tile_bridge.proofs.Common.{ap, archive, IfSome, is_some, IsHiddenOr, List, places_of, refl, shown, subst, TookAll, ℕ, ◌∙◌, ◌≡◌}
 use Rattle.tile_bridge.proofs.ConvertLemmas.{leaves_all, leaves_part, leaves_whole, read_refused, ready, told_same}
+use Rattle.tile_bridge.proofs.StandsLemmas.{medium_anyway, read_stands, written_stands}
 use Rattle.tile_bridge.proofs.conversion.convert_set.Goals as goal
 
 pub returns-in-Err-clause-leaves : goal.returns-in-Err-clause-leaves
@@ -47,3 +48,15 @@ pub returns-in-Ok-read_answers-clause-places : goal.returns-in-Ok-read_answers-c
 returns-in-Ok-read_answers-clause-places g c =
     let placed = subst (λ xs. (taken : List (ℕ × List ℕ)) × TookAll (g.M.Backend.told c.args.medium.now) (shown c.args.set.now.state.tiles xs) taken × (c.in-Ok.places ≡ places_of c.args.options.now taken)) c.deref.ensures.value c.in-Ok.ensures.places in
     record { adds = shown c.args.set.now.state.tiles c.in_ok-adds.adds.items; are = c.in_ok-adds.ensures.are; taken = placed.0; took = placed.1; places = placed.2 }
+
+pub returns-in_err-adds-clause-still : goal.returns-in_err-adds-clause-still
+returns-in_err-adds-clause-still g c = medium_anyway _ _ c.from_residual.result refl
+
+pub returns-in-Err-clause-still : goal.returns-in-Err-clause-still
+returns-in-Err-clause-still g c = written_stands _ _ c.in-Err.error c.of_writer.result c.of_writer.ensures
+
+pub returns-in-Ok-read_answers-clause-still : goal.returns-in-Ok-read_answers-clause-still
+returns-in-Ok-read_answers-clause-still g c = c.in-Ok-read_answers.ensures.still ∙ c.in-Ok.ensures.still
+
+pub returns-in-Err-read_answers-clause-still : goal.returns-in-Err-read_answers-clause-still
+returns-in-Err-read_answers-clause-still g c = read_stands _ _ _ c.in-Err-read_answers.error c.of_reader.result c.of_reader.ensures c.in-Ok.ensures.still c.in-Err-read_answers.ensures.still

@@ -1,9 +1,9 @@
-use Rattle.tile_bridge.proofs.Common.{ap, ConvertCauses, ConvertOptions, due, Err, false, IsEmpty, Leaves, map, MemStore, rules, SetCauses, subst, sym, told_of, true, unwrap_or, ◌∙◌}
+use Rattle.tile_bridge.proofs.Common.{ap, ConvertCauses, ConvertOptions, due, Err, false, IsEmpty, Leaves, map, MediumFault, MemStore, rules, SetCauses, subst, sym, told_of, true, unwrap_or, ◌∙◌}
 use Rattle.tile_bridge.proofs.ConvertLemmas.{none_told}
 use Rattle.tile_bridge.proofs.FoldLemmas.{has_failed}
 use Rattle.tile_bridge.proofs.LeavesLemmas.{of_set}
 use Rattle.tile_bridge.proofs.OutcomeLemmas.{refused_causes, set_causes}
-use Rattle.mb_store.proofs.FaultLemmas.{still_then}
+use Rattle.tile_bridge.proofs.StandsLemmas.{medium_after, medium_anyway, medium_handed}
 use Rattle.tile_bridge.proofs.owned.convert_owned.Goals as goal
 
 pub returns-in_err-set-clause-causes : goal.returns-in_err-set-clause-causes
@@ -49,5 +49,14 @@ returns-clause-leaves g c =
     (none_told _ _ c.in_ok-length.ensures.answer c.if-length-ne0.false) c.len.ensures.kept.told c.convert_set.ensures.causes c.convert_set.ensures.leaves c.convert_set.ensures.places c.convert_set.ensures.aggregate c.in_ok-set.ensures.aggregate
     (λ u. absurd (cc)))
 
+pub returns-in_err-length-clause-medium_still : goal.returns-in_err-length-clause-medium_still
+returns-in_err-length-clause-medium_still g c = medium_handed _ _ MediumFault c.from_residual.result tt c.from_residual.ensures.1
+
+pub returns-in_err-set-clause-medium_still : goal.returns-in_err-set-clause-medium_still
+returns-in_err-set-clause-medium_still g c = medium_anyway _ _ c.from_residual-in_err-set.result c.in_ok-length.ensures.still
+
+pub returns-in_err-made-clause-medium_still : goal.returns-in_err-made-clause-medium_still
+returns-in_err-made-clause-medium_still g c = medium_anyway _ _ c.from_residual-in_err-made.result c.in_ok-length.ensures.still
+
 pub returns-clause-medium_still : goal.returns-clause-medium_still
-returns-clause-medium_still g c = still_then c.convert_set.result (λ stands. stands ∙ c.in_ok-length.ensures.still) c.convert_set.ensures.still
+returns-clause-medium_still g c = medium_after _ _ _ c.convert_set.result c.in_ok-length.ensures.still c.convert_set.ensures.still

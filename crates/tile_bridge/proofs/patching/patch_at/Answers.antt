@@ -1,3 +1,4 @@
+use Rattle.tile_bridge.proofs.StandsLemmas.{is_at}
 use Rattle.tile_bridge.proofs.StoreLemmas.{patch_due, patch_refused}
 use Rattle.tile_bridge.proofs.patching.patch_at.Goals as goal
 
@@ -9,3 +10,6 @@ returns-in-Ok-clause-held g c = record { state = c.in_ok-patch.patch.state; of =
 
 pub returns-in-Ok-clause-state : goal.returns-in-Ok-clause-state
 returns-in-Ok-clause-state g c = patch_due c.args.force c.args.place c.args.set.state c.in_ok-patch.patch.state c.in-Ok.next.state (g.P.TileStore.tells c.args.patch.now) (g.P.TileStore.told c.args.patch.now) c.in_ok-patch.ensures.state c.in-Ok.ensures.answer
+
+pub returns-clause-placed : goal.returns-clause-placed
+returns-clause-placed g c = is_at c.args.place c.in-Err.error c.of_store.result c.of_store.ensures

@@ -2,6 +2,7 @@ use Rattle.tile_streaming.proofs.Common.{ap, Bool, bytes_told, false, refl, sym,
 use Rattle.tile_bridge.proofs.StoreLemmas.{load_refused}
 use Rattle.tile_streaming.proofs.BegunLemmas.{begun_again, marked_begun, refused_again}
 use Rattle.tile_streaming.specs.Overlaid.{has_digests}
+use Rattle.tile_bridge.proofs.StandsLemmas.{is_at}
 use Rattle.tile_streaming.proofs.beginning.read_marked.Goals as goal
 
 pub returns-in-Err-clause-refused : goal.returns-in-Err-clause-refused
@@ -28,3 +29,6 @@ returns-clause-begun g c =
     by : (a b : Bool) → a ≡ true → a && b ≡ false → b ≡ false
     by true b u h = h
     by false b u h = absurd (cc)
+
+pub returns-in-Err-clause-placed : goal.returns-in-Err-clause-placed
+returns-in-Err-clause-placed g c = is_at 0 c.in-Err.error c.of_store.result c.of_store.ensures

@@ -1,8 +1,9 @@
-use Rattle.tile_streaming.proofs.Common.{ap, ConvertOptions, IsHeldWith, overflow_of, stored_in, StreamCauses, StreamLeaves, subst, sym, tested_due, unwrap_or, ◌∙◌}
+use Rattle.tile_streaming.proofs.Common.{ap, ConvertOptions, IsHeldWith, overflow_of, refl, stored_in, PartLeaves, StreamCauses, subst, sym, tested_due, unwrap_or, ◌∙◌}
 use Rattle.tile_streaming.proofs.DueLemmas.{overflow_due}
 use Rattle.tile_streaming.proofs.SizeLemmas.{overflow_same}
 use Rattle.tile_streaming.proofs.StreamLemmas.{given_leaves}
 use Rattle.tile_streaming.specs.Hashing.{IsRight}
+use Rattle.tile_streaming.proofs.StandsLemmas.{medium_anyway, stores_anyway}
 use Rattle.tile_streaming.proofs.converting.convert_hashed.Goals as goal
 
 pub returns-then-mark_overflows-clause-causes : goal.returns-then-mark_overflows-clause-causes
@@ -28,6 +29,27 @@ returns-clause-leaves g c = λ begun from.
     let new = g.M.Backend.told c.convert_held.new.medium in
     let w = c.chosen-writer.result.now in
     let is = c.chosen-writer.ensures.writer ∙ ap (λ (o : ConvertOptions). unwrap_or c.in_ok-made.made o.writer) c.asked-asked.ensures in
-    given_leaves c.args.set.now.marked w gives (λ s held. subst (gives s) (sym is) (c.in_ok-made.ensures.given s held))
+    given_leaves c.args.part.now c.args.set.now.marked w gives (λ s held. subst (gives s) (sym is) (c.in_ok-made.ensures.given s held))
     (tested_due asked.verify begun) (g.S.TileStore.tells c.args.base.now) c.args.coords.now c.convert_held.result old new
-    (subst (λ (o : ConvertOptions). StreamLeaves (IsHeldWith c.args.set.now.marked w) (tested_due o.verify begun) (g.S.TileStore.tells c.args.base.now) c.args.coords.now c.convert_held.result old new) c.asked-asked.ensures (c.convert_held.ensures.leaves begun from))
+    (subst (λ (o : ConvertOptions). PartLeaves c.args.part.now (IsHeldWith c.args.set.now.marked w) (tested_due o.verify begun) (g.S.TileStore.tells c.args.base.now) c.args.coords.now c.convert_held.result old new) c.asked-asked.ensures (c.convert_held.ensures.leaves begun from))
+
+pub returns-then-mark_overflows-clause-base_still : goal.returns-then-mark_overflows-clause-base_still
+returns-then-mark_overflows-clause-base_still g c = λ patches. refl
+
+pub returns-then-mark_overflows-clause-medium_still : goal.returns-then-mark_overflows-clause-medium_still
+returns-then-mark_overflows-clause-medium_still g c = refl
+
+pub returns-in_err-made-clause-base_still : goal.returns-in_err-made-clause-base_still
+returns-in_err-made-clause-base_still g c = λ patches. stores_anyway _ _ c.from_residual.result refl
+
+pub returns-in_err-made-clause-medium_still : goal.returns-in_err-made-clause-medium_still
+returns-in_err-made-clause-medium_still g c = medium_anyway _ _ c.from_residual.result refl
+
+pub returns-in_err-found-clause-base_still : goal.returns-in_err-found-clause-base_still
+returns-in_err-found-clause-base_still g c = λ patches. stores_anyway _ _ c.from_residual-in_err-found.result refl
+
+pub returns-in_err-found-clause-medium_still : goal.returns-in_err-found-clause-medium_still
+returns-in_err-found-clause-medium_still g c = medium_anyway _ _ c.from_residual-in_err-found.result refl
+
+pub returns-clause-base_still : goal.returns-clause-base_still
+returns-clause-base_still g c = c.convert_held.ensures.base_still

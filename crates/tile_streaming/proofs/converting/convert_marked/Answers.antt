@@ -1,5 +1,4 @@
-use Rattle.tile_streaming.proofs.Common.{ap, ConvertOptions, Err, IfSome, inl, List, Option, refl, Result, Rose, RoseAt, StreamCauses, StreamError, StreamLeaves, StreamReport, subst, ℕ, [], ◌∙◌, ◌∷◌, ◌||◌, ◌≡◌, IsHeld, IsHeldOf, stored_in, tested_due}
-use Rattle.mb_store.proofs.FaultLemmas.{still_then}
+use Rattle.tile_streaming.proofs.Common.{ap, ConvertOptions, Err, IfSome, inl, List, Option, refl, Result, Rose, RoseAt, PartLeaves, StreamCauses, StreamError, StreamReport, subst, ℕ, [], ◌∙◌, ◌∷◌, ◌||◌, ◌≡◌, IsHeld, IsHeldOf, stored_in, tested_due}
 use Rattle.tile_bridge.specs.declared.error.ConvertError.TheVariants.{MediumFault, StoreFault}
 use Rattle.tile_streaming.proofs.DueLemmas.{causes_moved, leaves_moved, rose_more}
 use Rattle.tile_streaming.proofs.StepLemmas.{same_error}
@@ -7,6 +6,8 @@ use Rattle.tile_streaming.proofs.StreamLemmas.{error_of}
 use Rattle.tile_streaming.proofs.VerifyLemmas.{asked_is, hash_causes, hash_no_medium, hash_right, hash_rose, store_moved}
 use Rattle.tile_streaming.specs.Hashing.{HashCauses, IsHashOf, IsRight}
 use Rattle.tile_streaming.specs.declared.error.StreamError.TheVariants.{Convert}
+use Rattle.tile_streaming.proofs.StandsLemmas.{medium_anyway, stores_after, stores_hash}
+use Rattle.tile_streaming.specs.Stands.{StoresStand}
 use Rattle.tile_streaming.proofs.converting.convert_marked.Goals as goal
 
 pub convert_hashed-requires-clause-held : goal.convert_hashed-requires-clause-held
@@ -48,7 +49,7 @@ pub returns-in_err-aggregate-clause-leaves : goal.returns-in_err-aggregate-claus
 returns-in_err-aggregate-clause-leaves g c = λ begun from.
     let asks = g.O.ArchiveOptions.asks c.args.options.now in
     let told = g.M.Backend.told c.args.medium.now in
-    same_error c.in_err-aggregate.field-0.0 _ (λ (r : Result StreamReport StreamError). StreamLeaves (g.O.ArchiveOptions.gives c.args.options.now) (tested_due asks.verify begun) (g.S.TileStore.tells c.args.base.now) c.args.coords.now r told told)
+    same_error c.in_err-aggregate.field-0.0 _ (λ (r : Result StreamReport StreamError). PartLeaves c.args.part.now (g.O.ArchiveOptions.gives c.args.options.now) (tested_due asks.verify begun) (g.S.TileStore.tells c.args.base.now) c.args.coords.now r told told)
     (inl (record { refused = tt; medium = refl })) c.from_residual.ensures.1
 
 pub returns-in_err-aggregate-clause-store_fault : goal.returns-in_err-aggregate-clause-store_fault
@@ -90,7 +91,7 @@ returns-clause-leaves g c = λ begun from.
     let now = stored_in set (g.S.TileStore.told c.hash_for.new.store) in
     let asks = g.O.ArchiveOptions.asks c.args.options.now in
     let moved = store_moved (λ b x. IsHeldOf begun b x set.marked) tells tells_now t now c.hash_for.ensures.kept.tells (ap (stored_in set) c.hash_for.ensures.kept.told) from in
-    leaves_moved (tested_due asks.verify begun) tells tells_now c.hash_for.ensures.kept.tells
+    leaves_moved (tested_due asks.verify begun) tells tells_now c.hash_for.ensures.kept.tells c.args.part.now
     (g.O.ArchiveOptions.gives c.args.options.now) c.args.coords.now c.convert_hashed.result (g.M.Backend.told c.args.medium.now) (g.M.Backend.told c.convert_hashed.new.medium) (c.convert_hashed.ensures.leaves begun moved)
 
 pub returns-clause-store_fault : goal.returns-clause-store_fault
@@ -101,5 +102,13 @@ returns-clause-aggregate g c =
     asked_is c.convert_hashed.result c.in_ok-aggregate.aggregate ((g.O.ArchiveOptions.asks c.args.options.now).verify || c.args.hash)
     (c.in_ok-aggregate.ensures.asked ∙ ap (λ (o : ConvertOptions). o.verify || c.args.hash) c.asked.ensures) c.convert_hashed.ensures.aggregate
 
+pub returns-in_err-aggregate-clause-base_still : goal.returns-in_err-aggregate-clause-base_still
+returns-in_err-aggregate-clause-base_still g c = λ patches.
+    same_error c.in_err-aggregate.field-0.0 _ (StoresStand (g.S.TileStore.faults c.args.base.now ∷ patches) (g.S.TileStore.faults c.hash_for.new.store ∷ patches))
+    (stores_hash (Option (List ℕ)) c.asked.result.now.verify (g.S.TileStore.tells c.args.base.now) (stored_in c.args.set.now (g.S.TileStore.told c.args.base.now)) c.args.set.now.marked (g.S.TileStore.faults c.args.base.now) (g.S.TileStore.faults c.hash_for.new.store) patches c.in_err-aggregate.field-0.0 c.in_err-aggregate.ensures.causes c.in_err-aggregate.ensures.still) c.from_residual.ensures.1
+
+pub returns-in_err-aggregate-clause-medium_still : goal.returns-in_err-aggregate-clause-medium_still
+returns-in_err-aggregate-clause-medium_still g c = medium_anyway _ _ c.from_residual.result refl
+
 pub returns-clause-base_still : goal.returns-clause-base_still
-returns-clause-base_still g c = still_then c.convert_hashed.result (λ stands. stands ∙ c.in_ok-aggregate.ensures.still) c.convert_hashed.ensures.base_still
+returns-clause-base_still g c = λ patches. stores_after _ _ _ c.convert_hashed.result (ap (λ n. n ∷ patches) c.in_ok-aggregate.ensures.still) (c.convert_hashed.ensures.base_still patches)

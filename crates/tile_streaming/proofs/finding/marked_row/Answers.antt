@@ -1,5 +1,6 @@
-use Rattle.tile_streaming.proofs.Common.{ap, option_map, row_bytes, sym, ◌∙◌}
+use Rattle.tile_streaming.proofs.Common.{ap, option_map, refl, row_bytes, sym, ◌∙◌}
 use Rattle.tile_streaming.proofs.PatchedSetLemmas.{changed_under, held_answer, held_changed, held_found, stored_under}
+use Rattle.tile_streaming.proofs.StandsLemmas.{base_anyway}
 use Rattle.tile_streaming.proofs.finding.marked_row.Goals as goal
 
 pub returns-then-holds-clause-found : goal.returns-then-holds-clause-found
@@ -19,3 +20,6 @@ returns-in-Ok-clause-answer g c = λ u.
 pub returns-in-Err-clause-causes : goal.returns-in-Err-clause-causes
 returns-in-Err-clause-causes g c =
     changed_under c.args.set.now (g.S.TileStore.told c.args.store.now) c.args.mark.now (g.S.TileStore.tells c.args.store.now) (g.S.TileStore.faults c.args.store.now) (g.S.TileStore.faults c.stored_row.new.store) c.in-Err.error (sym c.holds.ensures ∙ c.if-holds.false) c.in-Err.ensures.causes
+
+pub returns-then-holds-clause-still : goal.returns-then-holds-clause-still
+returns-then-holds-clause-still g c = base_anyway _ _ c.held_row.result refl

@@ -1,4 +1,4 @@
-use Rattle.tile_streaming.proofs.Common.{All, IsStored, length, List, Mark, stored_in, subst, sym, ◌<◌, ◌≡◌, ◌≢◌}
+use Rattle.tile_streaming.proofs.Common.{All, IsStored, length, List, Mark, refl, stored_in, subst, sym, ◌<◌, ◌≡◌, ◌≢◌}
 use Rattle.std.proofs.Common.{flat_map}
 use Rattle.tile_streaming.proofs.HashLemmas.{are_some, is_none, none_hashed, some_hashed}
 use Rattle.tile_streaming.proofs.SpotLemmas.{all_within}
@@ -7,6 +7,9 @@ use Rattle.tile_streaming.specs.Common.{in_hexadecimal, tile_text}
 use Rattle.tile_streaming.specs.Hashing.{AreHashed, tiles_with}
 use Rattle.tile_streaming.specs.Spots.{AreSpots, marks_at}
 use Rattle.tile_streaming.specs.declared.spots.Spot.{Spot}
+use Rattle.tile_streaming.proofs.StepLemmas.{same_error}
+use Rattle.tile_streaming.proofs.StandsLemmas.{base_anyway}
+use Rattle.tile_streaming.specs.Stands.{BaseStands}
 use Rattle.tile_streaming.proofs.hashing.hash_marked.Goals as goal
 
 pub returns-then-is_empty-clause-hash : goal.returns-then-is_empty-clause-hash
@@ -42,3 +45,15 @@ returns-clause-hash g c = λ s held has.
     subst (λ (l : List Mark). AreHashed tells t a (marks_at l spots) stream) c.as_slice-marks.ensures.value (subst (λ (l : List Spot). AreHashed tells t a (marks_at slice l) stream) c.deref.ensures.value first) in
     some_hashed tells t set s held has some spots are stream all c.in_ok-finish.field-0
     (c.in_ok-finish.ensures a (flat_map tile_text (tiles_with (marks_at set.marks.items spots) all.contents)) all.taken)
+
+pub returns-in_err-hash-clause-still : goal.returns-in_err-hash-clause-still
+returns-in_err-hash-clause-still g c = base_anyway _ _ c.from_residual.result refl
+
+pub returns-in_err-spots-clause-still : goal.returns-in_err-spots-clause-still
+returns-in_err-spots-clause-still g c = base_anyway _ _ c.from_residual-in_err-spots.result refl
+
+pub returns-in_err-hash_spots-clause-still : goal.returns-in_err-hash_spots-clause-still
+returns-in_err-hash_spots-clause-still g c = same_error c.in_err-hash_spots.field-0.0 _ (BaseStands (g.S.TileStore.faults c.args.store.now) (g.S.TileStore.faults c.hash_spots.new.store)) c.in_err-hash_spots.ensures.still c.from_residual-in_err-hash_spots.ensures.1
+
+pub returns-in_err-finish-clause-still : goal.returns-in_err-finish-clause-still
+returns-in_err-finish-clause-still g c = base_anyway _ _ c.from_residual-in_err-finish.result c.in_ok-hash_spots.ensures.still

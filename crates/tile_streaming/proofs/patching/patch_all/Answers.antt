@@ -1,5 +1,5 @@
-use Rattle.tile_streaming.proofs.Common.{ap, arith, Err, fresh, refl, ◌∙◌}
-use Rattle.tile_bridge.proofs.FoldLemmas.{as_long, due_all, fault_after, folded_none, read_after, refused_after}
+use Rattle.tile_streaming.proofs.Common.{ap, arith, Err, fresh, refl, ◌∙◌, ◌∷◌}
+use Rattle.tile_bridge.proofs.FoldLemmas.{as_long, due_all, fault_after, folded_none, read_after, refused_after, stands_after}
 use Rattle.tile_streaming.proofs.PatchLemmas.{has_next}
 use Rattle.tile_streaming.proofs.patching.patch_all.Goals as goal
 
@@ -55,9 +55,18 @@ returns-clause-read g c =
     let so = c.loop-index.invariant.1 need.0 need.1 need.2 s need.4 need.5 in
     so.folded.read
 
-pub returns-clause-still : goal.returns-clause-still
-returns-clause-still g c =
+pub returns-in_err-next-clause-still : goal.returns-in_err-next-clause-still
+returns-in_err-next-clause-still g c =
     let need = c.requires in
     let s = need.3 in
     let so = c.loop-index.invariant.1 need.0 need.1 need.2 s need.4 need.5 in
-    so.folded.still
+    stands_after g.P.TileStore.tells g.P.TileStore.told g.P.TileStore.faults g.P.TileStore.steady c.args.force (fresh s) c.args.patches.now.items c.loop-index.patches.items c.loop-index.index so.held so.folded
+    c.index_mut.result.now c.patch_at.new.patch (omega (arith, c.loop-index-test.true, c.len-index-end.ensures, as_long g.P.TileStore.told c.args.patches.now.items c.loop-index.patches.items so.folded.read.told)) c.index_mut.ensures.value c.patch_at.ensures.kept
+    c.in_err-next.field-0.0 c.from_residual.result c.in_err-next.ensures.placed c.from_residual.ensures.1
+
+pub returns-clause-still : goal.returns-clause-still
+returns-clause-still g c = λ base.
+    let need = c.requires in
+    let s = need.3 in
+    let so = c.loop-index.invariant.1 need.0 need.1 need.2 s need.4 need.5 in
+    ap (λ counts. base ∷ counts) so.folded.still

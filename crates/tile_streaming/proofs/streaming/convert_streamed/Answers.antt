@@ -1,10 +1,11 @@
-use Rattle.tile_streaming.proofs.Common.{arith, length-map, List, StreamCauses, StreamLeaves, subst, [], ap, ◌∙◌}
+use Rattle.tile_streaming.proofs.Common.{List, StreamCauses, StreamLeaves, subst, ap, ◌∙◌}
 use Rattle.mb_store.specs.MemStore.{told_of}
 use Rattle.mb_store.specs.declared.mem_store.MemStore.{MemStore}
-use Rattle.std.proofs.Common.{length, map, true}
+use Rattle.std.proofs.Common.{length, true}
 use Rattle.tile_bridge.proofs.FoldLemmas.{as_long}
 use Rattle.tile_bridge.specs.Outcome.{due}
 use Rattle.tile_streaming.proofs.ResolveLemmas.{none_left, rose_alone}
+use Rattle.tile_streaming.proofs.StandsLemmas.{alone}
 use Rattle.tile_streaming.proofs.streaming.convert_streamed.Goals as goal
 
 pub returns-clause-causes : goal.returns-clause-causes
@@ -23,3 +24,10 @@ returns-clause-store_fault g c = λ place h.
     let new = c.convert_patched.new.patches.items in
     let none = none_left new (as_long told_of old new c.convert_patched.ensures.patches.told ∙ ap length c.new-none.ensures.items) in
     rose_alone _ place (g.S.TileStore.faults c.args.base.now) (g.S.TileStore.faults c.convert_patched.new.base) old new c.new-none.ensures.items none (c.convert_patched.ensures.store_fault place h)
+
+pub returns-clause-stores_still : goal.returns-clause-stores_still
+returns-clause-stores_still g c =
+    let old = c.new-none.result.items in
+    let new = c.convert_patched.new.patches.items in
+    let none = none_left new (as_long told_of old new c.convert_patched.ensures.patches.told ∙ ap length c.new-none.ensures.items) in
+    alone _ (g.S.TileStore.faults c.args.base.now) (g.S.TileStore.faults c.convert_patched.new.base) old new c.convert_patched.result c.new-none.ensures.items none c.convert_patched.ensures.stores_still

@@ -1,5 +1,4 @@
-use Rattle.tile_streaming.proofs.Common.{ap, ConvertOptions, Err, IsHeld, IsHeldOf, list_all, map, state_of, stored_in, StreamCauses, StreamError, StreamLeaves, subst, sym, tested_due, ◌&&◌, ◌∙◌, ◌∷◌}
-use Rattle.mb_store.proofs.FaultLemmas.{still_anyway, still_then}
+use Rattle.tile_streaming.proofs.Common.{ap, ConvertOptions, Err, IsHeld, IsHeldOf, list_all, map, refl, state_of, stored_in, PartLeaves, StreamCauses, StreamReport, subst, sym, tested_due, ◌&&◌, ◌∙◌, ◌∷◌}
 use Rattle.tile_bridge.specs.Outcome.{all_patched, at_place}
 use Rattle.tile_bridge.specs.Stores.{Refuses}
 use Rattle.tile_streaming.proofs.DueLemmas.{causes_moved, due_tested, leaves_moved, no_medium, set_refused}
@@ -8,6 +7,7 @@ use Rattle.tile_streaming.proofs.StreamLemmas.{error_of, same_word}
 use Rattle.tile_streaming.proofs.VerifyLemmas.{store_moved}
 use Rattle.tile_streaming.specs.Streaming.{begun_due}
 use Rattle.tile_streaming.specs.declared.error.StreamError.TheVariants.{Convert}
+use Rattle.tile_streaming.proofs.StandsLemmas.{medium_anyway, stores_after}
 use Rattle.tile_streaming.proofs.streaming.convert_tested.Goals as goal
 
 pub convert_marked-requires-clause-held : goal.convert_marked-requires-clause-held
@@ -49,8 +49,8 @@ returns-in-Ok-clause-leaves g c =
     let moved = store_moved (λ b x. IsHeldOf (begun c.asked.result.now) b x set.marked) tells tells_now (stored_in set told) (stored_in set now) c.resolve.ensures.base_kept.tells (ap (stored_in set) c.resolve.ensures.base_kept.told) c.in-Ok.ensures.held in
     let held = subst (λ (o : ConvertOptions). IsHeldOf (begun o) tells_now (stored_in set now) set.marked) c.asked.ensures moved in
     let due = due_tested (tells && list_all g.P.TileStore.tells patches) (at_place 0 (state_of told)) (λ s. all_patched asks.force 1 s (map g.P.TileStore.told patches)) asks.verify in
-    subst (λ d. StreamLeaves gives d tells c.args.coords.now c.convert_marked.result old new) (sym due)
-    (leaves_moved (tested_due asks.verify (begun asks)) tells tells_now c.resolve.ensures.base_kept.tells gives c.args.coords.now c.convert_marked.result old new (c.convert_marked.ensures.leaves (begun asks) held))
+    subst (λ d. PartLeaves c.args.part.now gives d tells c.args.coords.now c.convert_marked.result old new) (sym due)
+    (leaves_moved (tested_due asks.verify (begun asks)) tells tells_now c.resolve.ensures.base_kept.tells c.args.part.now gives c.args.coords.now c.convert_marked.result old new (c.convert_marked.ensures.leaves (begun asks) held))
 
 pub returns-in-Ok-clause-store_fault : goal.returns-in-Ok-clause-store_fault
 returns-in-Ok-clause-store_fault g c = λ place h.
@@ -75,8 +75,13 @@ pub returns-in-Err-clause-fault : goal.returns-in-Err-clause-fault
 returns-in-Err-clause-fault g c = λ h.
     absurd (no_medium (begun_due g.S.TileStore.tells g.S.TileStore.told g.P.TileStore.tells g.P.TileStore.told c.args.base.now c.args.patches.now.items c.asked.result.now.force) c.in-Err.error c.in-Err.ensures.refused (same_word c.in-Err.error _ (error_of (Convert c.in-Err.error) _ h)))
 
-pub returns-in-Ok-clause-base_still : goal.returns-in-Ok-clause-base_still
-returns-in-Ok-clause-base_still g c = still_then c.convert_marked.result (λ stands. stands ∙ c.in-Ok.ensures.base_still) c.convert_marked.ensures.base_still
+pub returns-in-Ok-clause-stores_still : goal.returns-in-Ok-clause-stores_still
+returns-in-Ok-clause-stores_still g c =
+    stores_after (g.S.TileStore.faults c.args.base.now ∷ map g.P.TileStore.faults c.args.patches.now.items) (g.S.TileStore.faults c.resolve.new.base ∷ map g.P.TileStore.faults c.resolve.new.patches.items) (g.S.TileStore.faults c.convert_marked.new.base ∷ map g.P.TileStore.faults c.resolve.new.patches.items)
+    c.convert_marked.result c.in-Ok.ensures.still (c.convert_marked.ensures.base_still (map g.P.TileStore.faults c.resolve.new.patches.items))
 
-pub returns-in-Ok-clause-patches_still : goal.returns-in-Ok-clause-patches_still
-returns-in-Ok-clause-patches_still g c = still_anyway c.convert_marked.result c.in-Ok.ensures.patches_still
+pub returns-in-Err-clause-stores_still : goal.returns-in-Err-clause-stores_still
+returns-in-Err-clause-stores_still g c = c.in-Err.ensures.still
+
+pub returns-in-Err-clause-medium_still : goal.returns-in-Err-clause-medium_still
+returns-in-Err-clause-medium_still g c = medium_anyway {A = StreamReport} _ _ (Err (Convert c.in-Err.error)) refl

@@ -1,7 +1,9 @@
-use Rattle.tile_streaming.proofs.Common.{Cell, IsChanged, List, rules, StepCauses, sym, took_itself, [], ◌∙◌, bytes_in, Option, stored_in}
+use Rattle.tile_streaming.proofs.Common.{Cell, IsChanged, List, refl, rules, StepCauses, sym, took_itself, [], ◌∙◌, bytes_in, Option, stored_in}
 use Rattle.std.proofs.lemmas.Result.{on_ok_weaker}
 use Rattle.tile_streaming.proofs.AddingLemmas.{fits_read, none_read}
 use Rattle.tile_streaming.proofs.StepLemmas.{add_step, find_step, same_error}
+use Rattle.tile_streaming.proofs.StandsLemmas.{base_anyway, medium_anyway}
+use Rattle.tile_streaming.specs.Stands.{BaseStands}
 use Rattle.tile_streaming.proofs.writing.add_mark.Goals as goal
 
 pub returns-then-mark-eq0-clause-added : goal.returns-then-mark-eq0-clause-added
@@ -44,3 +46,12 @@ returns-clause-causes g c = λ o adds w fit.
     let r = fits_read tells t c.args.mark.now (bytes_in c.args.set.now c.args.mark.now.id c.in_ok-row.row) c.requires.short c.in_ok-row.ensures.found c.in_ok-row.ensures.answer in
     let changed = IsChanged tells t c.args.mark.now in
     add_step (Unit {0}) changed (g.S.TileStore.faults c.args.store.now) (g.S.TileStore.faults c.marked_row.new.store) (g.M.Backend.faults c.args.medium.now) (g.M.Backend.faults c.add_row.new.medium) c.add_row.result (c.add_row.ensures.causes o adds w (λ taken size. fit taken (size ∙ r.size) (search rules)))
+
+pub returns-in_err-row-clause-store_still : goal.returns-in_err-row-clause-store_still
+returns-in_err-row-clause-store_still g c = same_error c.in_err-row.field-0.0 _ (BaseStands (g.S.TileStore.faults c.args.store.now) (g.S.TileStore.faults c.marked_row.new.store)) c.in_err-row.ensures.still c.from_residual.ensures.1
+
+pub returns-in_err-row-clause-medium_still : goal.returns-in_err-row-clause-medium_still
+returns-in_err-row-clause-medium_still g c = medium_anyway _ _ c.from_residual.result refl
+
+pub returns-clause-store_still : goal.returns-clause-store_still
+returns-clause-store_still g c = base_anyway _ _ c.add_row.result c.in_ok-row.ensures.still

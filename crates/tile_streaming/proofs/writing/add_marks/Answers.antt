@@ -1,6 +1,8 @@
-use Rattle.tile_streaming.proofs.Common.{arith, IsChanged, IsStored, medium_same, medium_then, refl, rules, StepCauses, subst, sym, false, [], ◌∙◌, ◌≡◌, ap, stored_in}
+use Rattle.tile_streaming.proofs.Common.{arith, Err, IsChanged, IsStored, medium_same, medium_then, refl, rules, StepCauses, subst, sym, false, [], ◌∙◌, ◌≡◌, ap, stored_in}
 use Rattle.tile_streaming.proofs.AddingLemmas.{added_next, fits_now, short_mark}
 use Rattle.tile_streaming.proofs.StepLemmas.{changed_untold, same_error, step_within}
+use Rattle.tile_streaming.proofs.StandsLemmas.{base_after, medium_after}
+use Rattle.tile_streaming.specs.Stands.{BaseStands, MediumStands}
 use Rattle.tile_streaming.proofs.writing.add_marks.Goals as goal
 
 pub add_mark-requires-clause-writes : goal.add_mark-requires-clause-writes
@@ -72,3 +74,9 @@ loop-mark-init g c = (
   refl,
   refl,
 )
+
+pub returns-in_err-add_mark-clause-store_still : goal.returns-in_err-add_mark-clause-store_still
+returns-in_err-add_mark-clause-store_still g c = same_error c.in_err-add_mark.field-0.0 _ (BaseStands (g.S.TileStore.faults c.args.store.now) (g.S.TileStore.faults c.add_mark.new.store)) (base_after {A = Unit {0}} _ _ _ (Err c.in_err-add_mark.field-0.0) c.loop-mark.invariant.4 c.in_err-add_mark.ensures.store_still) c.from_residual.ensures.1
+
+pub returns-in_err-add_mark-clause-medium_still : goal.returns-in_err-add_mark-clause-medium_still
+returns-in_err-add_mark-clause-medium_still g c = same_error c.in_err-add_mark.field-0.0 _ (MediumStands (g.M.Backend.faults c.args.medium.now) (g.M.Backend.faults c.add_mark.new.medium)) (medium_after {A = Unit {0}} _ _ _ (Err c.in_err-add_mark.field-0.0) c.loop-mark.invariant.5 c.in_err-add_mark.ensures.medium_still) c.from_residual.ensures.1

@@ -3,7 +3,7 @@ use Rattle.tileset.proofs.DumpLemmas.{front_all, front_piece, gains_piece, gains
 use Rattle.byte_media.proofs.KeptLemmas.{medium_same, medium_then}
 use Rattle.byte_streams.proofs.KeptLemmas.{sink_same, sink_then}
 use Rattle.tileset.proofs.PrintedLemmas.{grows_none, grows_then}
-use Rattle.tileset.proofs.StandsLemmas.{output_ended, report_ended}
+use Rattle.tileset.proofs.StandsLemmas.{medium_ended, output_ended}
 use Rattle.tileset.proofs.dump.write_dump.Goals as goal
 
 pub loop-at-init : goal.loop-at-init
@@ -45,4 +45,4 @@ pub returns-in_err-write_piece-clause-output_still : goal.returns-in_err-write_p
 returns-in_err-write_piece-clause-output_still g c = output_ended _ _ _ c.in_err-write_piece.field-0.0 c.from_residual.result c.loop-at.invariant.output_still c.in_err-write_piece.ensures.output_still c.from_residual.ensures.1
 
 pub returns-in_err-write_piece-clause-medium_still : goal.returns-in_err-write_piece-clause-medium_still
-returns-in_err-write_piece-clause-medium_still g c = report_ended _ _ _ c.in_err-write_piece.field-0.0 c.from_residual.result c.loop-at.invariant.medium_still c.in_err-write_piece.ensures.medium_still c.from_residual.ensures.1
+returns-in_err-write_piece-clause-medium_still g c = medium_ended _ _ _ c.in_err-write_piece.field-0.0 c.from_residual.result c.loop-at.invariant.medium_still c.in_err-write_piece.ensures.medium_still c.from_residual.ensures.1

@@ -1,7 +1,7 @@
 use Rattle.tileset.proofs.Common.{outcome_of, refl}
 use Rattle.tileset.proofs.ReportLemmas.{report_all, report_front, report_further}
 use Rattle.tileset.proofs.PrintedLemmas.{gains_then}
-use Rattle.tileset.proofs.StandsLemmas.{output_ended, report_ended, report_stands}
+use Rattle.tileset.proofs.StandsLemmas.{medium_ended, medium_stands, output_ended}
 use Rattle.tileset.proofs.report.write_hex_report.Goals as goal
 
 pub returns-in_err-write_summary-clause-front : goal.returns-in_err-write_summary-clause-front
@@ -23,11 +23,11 @@ pub returns-in_err-write_summary-clause-output_still : goal.returns-in_err-write
 returns-in_err-write_summary-clause-output_still g c = output_ended _ _ _ c.in_err-write_summary.field-0.0 c.from_residual.result refl c.in_err-write_summary.ensures.output_still c.from_residual.ensures.1
 
 pub returns-in_err-write_summary-clause-medium_still : goal.returns-in_err-write_summary-clause-medium_still
-returns-in_err-write_summary-clause-medium_still g c = report_stands _ _ (outcome_of c.from_residual.result) refl
+returns-in_err-write_summary-clause-medium_still g c = medium_stands _ _ (outcome_of c.from_residual.result) refl
 
 pub returns-in_err-write_dump-clause-output_still : goal.returns-in_err-write_dump-clause-output_still
 returns-in_err-write_dump-clause-output_still g c =
     output_ended _ _ _ c.in_err-write_dump.field-0.0 c.from_residual-in_err-write_dump.result c.in_ok-write_summary.ensures.output_still c.in_err-write_dump.ensures.output_still c.from_residual-in_err-write_dump.ensures.1
 
 pub returns-in_err-write_dump-clause-medium_still : goal.returns-in_err-write_dump-clause-medium_still
-returns-in_err-write_dump-clause-medium_still g c = report_ended _ _ _ c.in_err-write_dump.field-0.0 c.from_residual-in_err-write_dump.result refl c.in_err-write_dump.ensures.medium_still c.from_residual-in_err-write_dump.ensures.1
+returns-in_err-write_dump-clause-medium_still g c = medium_ended _ _ _ c.in_err-write_dump.field-0.0 c.from_residual-in_err-write_dump.result refl c.in_err-write_dump.ensures.medium_still c.from_residual-in_err-write_dump.ensures.1

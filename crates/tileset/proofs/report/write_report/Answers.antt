@@ -1,7 +1,7 @@
 use Rattle.tileset.proofs.Common.{outcome_of, refl}
 use Rattle.tileset.proofs.ReportLemmas.{bulk_front, file_all, file_front, lines_end, no_medium_fault}
 use Rattle.tileset.proofs.PrintedLemmas.{printed_bulk, printed_file, printed_hex}
-use Rattle.tileset.proofs.StandsLemmas.{report_stands}
+use Rattle.tileset.proofs.StandsLemmas.{medium_stands}
 use Rattle.tileset.proofs.report.write_report.Goals as goal
 
 pub returns-in-ConvertFile-clause-all : goal.returns-in-ConvertFile-clause-all
@@ -35,7 +35,7 @@ pub returns-in-Bulk-clause-printed : goal.returns-in-Bulk-clause-printed
 returns-in-Bulk-clause-printed g c = printed_bulk _ c.in-Bulk.tiles c.in-Bulk.repeat c.in-Bulk.leaf_entries c.is_some.result c.args.queries.now c.args.report.now _ _ c.write_places.result c.in-Bulk.is c.is_some.ensures c.write_places.ensures.all
 
 pub returns-in-ConvertFile-clause-medium_still : goal.returns-in-ConvertFile-clause-medium_still
-returns-in-ConvertFile-clause-medium_still g c = report_stands _ _ (outcome_of c.write_summary.result) refl
+returns-in-ConvertFile-clause-medium_still g c = medium_stands _ _ (outcome_of c.write_summary.result) refl
 
 pub returns-in-Bulk-clause-medium_still : goal.returns-in-Bulk-clause-medium_still
-returns-in-Bulk-clause-medium_still g c = report_stands _ _ (outcome_of c.write_places.result) refl
+returns-in-Bulk-clause-medium_still g c = medium_stands _ _ (outcome_of c.write_places.result) refl

@@ -53,11 +53,11 @@ returns-clause-printed g c =
 
 pub returns-in_err-report-clause-medium_still : goal.returns-in_err-report-clause-medium_still
 returns-in_err-report-clause-medium_still g c =
-    subst (MediumStands _ _ _ _) (sym (err_outcome c.from_residual.result (of_convert c.in_err-report.field-0.0) c.from_residual.ensures.1)) (convert_failed (g.O.Sink.held c.args.output.now) _ _ c.in_err-report.field-0.0)
+    subst (MediumStands _ _) (sym (err_outcome c.from_residual.result (of_convert c.in_err-report.field-0.0) c.from_residual.ensures.1)) (convert_failed _ _ c.in_err-report.field-0.0 c.in_err-report.ensures.medium_still)
 
 pub returns-in_err-write_report-clause-output_still : goal.returns-in_err-write_report-clause-output_still
 returns-in_err-write_report-clause-output_still g c = output_ended _ _ _ c.in_err-write_report.field-0.0 c.from_residual-in_err-write_report.result refl c.in_err-write_report.ensures.output_still c.from_residual-in_err-write_report.ensures.1
 
 pub returns-in_err-write_report-clause-medium_still : goal.returns-in_err-write_report-clause-medium_still
 returns-in_err-write_report-clause-medium_still g c =
-    medium_ended (g.O.Sink.held c.args.output.now) (g.O.Sink.held c.write_report.new.output) _ _ _ c.in_err-write_report.field-0.0 c.from_residual-in_err-write_report.result c.in_ok-report.ensures.medium_still c.in_err-write_report.ensures.medium_still c.from_residual-in_err-write_report.ensures.1
+    medium_ended _ _ _ c.in_err-write_report.field-0.0 c.from_residual-in_err-write_report.result c.in_ok-report.ensures.medium_still c.in_err-write_report.ensures.medium_still c.from_residual-in_err-write_report.ensures.1

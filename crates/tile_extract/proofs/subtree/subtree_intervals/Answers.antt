@@ -1,6 +1,6 @@
 use Rattle.tile_extract.proofs.Common.{ap, AreApart, arith, intervals_from, subst, sym, [], ◌++◌, ◌+◌, ◌-◌, ◌∙◌, ◌∷◌}
 use Rattle.tile_extract.proofs.IntervalLemmas.{all_found, apart, more_intervals, none_yet}
-use Rattle.tile_extract.proofs.subtree.intervals_of.Goals as goal
+use Rattle.tile_extract.proofs.subtree.subtree_intervals.Goals as goal
 
 pub loop-zoom-init : goal.loop-zoom-init
 loop-zoom-init c = (
