@@ -51,13 +51,13 @@ bytes_of() {
 }
 
 # bytes_to_read FILE.. OUT: how many bytes the program reads of sets. The base is read three times, page by page, the
-# third time its part alone where one is asked for, and once more for the hash, which is also made where there are
-# patches. The file of a patch above the 8 MiB that the program keeps is read five times while it is opened, and once
+# third time its part alone where one is asked for, and once more for the hash, which is also made where patches are
+# put on a whole set. The file of a patch above the 8 MiB that the program keeps is read five times while it is opened, and once
 # for its rows.
 bytes_to_read() {
     times=3
     [ -z "$part" ] || times=2
-    [ -z "$hash$verify" ] && [ $# -le 2 ] || times=$((times + 1))
+    [ -z "$hash$verify" ] && { [ $# -le 2 ] || [ -n "$part" ]; } || times=$((times + 1))
     bytes=$((times * $(bytes_of "$1")))
     shift
     while [ $# -gt 1 ]; do
