@@ -52,8 +52,8 @@ bytes_of() {
 
 # bytes_to_read FILE.. OUT: how many bytes the program reads of sets. The base is read three times, page by page, the
 # third time its part alone where one is asked for, and once more for the hash, which is also made where patches are
-# put on a whole set. The file of a patch above the 8 MiB that the program keeps is read five times while it is opened, and once
-# for its rows.
+# put on a whole set. The file of a patch above the 8 MiB that the program keeps is read five times while it is opened,
+# and once for its rows.
 bytes_to_read() {
     times=3
     [ -z "$part" ] || times=2
