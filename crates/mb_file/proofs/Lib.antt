@@ -3,8 +3,10 @@ mod FaultLemmas
 mod FindLemmas
 mod MarkLemmas
 mod MetadataLemmas
+mod NotedLemmas
 mod NumberLemmas
 mod PageLemmas
 mod RecordLemmas
 mod RowLemmas
 mod ScanLemmas
+mod UnseenLemmas

@@ -1,5 +1,5 @@
 -- A row that a tree finds is one of its rows.
-use Rattle.std.proofs.Common.{ap, ap₂, Bool, cond, false, inl, inr, int_lt, is_lt, List, None, pos, refl, Some, subst, sym, to_z, of_z, true, w64, [], ℕ, ℤ, ◌∙◌, ◌∷◌, ◌≡◌, SFits}
+use Rattle.std.proofs.Common.{ap, ap₂, Bool, cond, false, inl, inr, IfSome, int_lt, is_lt, length, List, None, Option, pos, refl, Some, subst, sym, to_z, of_z, true, w64, [], ℕ, ℤ, ◌∙◌, ◌∷◌, ◌≡◌, SFits}
 use Rattle.std.proofs.lemmas.Bool.{cases_Bool}
 use Rattle.std.proofs.lemmas.Int.{to_z-of_z}
 use Rattle.std.proofs.Common.{Ordering}
@@ -10,6 +10,7 @@ use Rattle.mb_reading.specs.Filling.{misplaced}
 use Rattle.mb_reading.specs.Rows.{is_placed, row_in}
 use Rattle.mb_reading.specs.declared.filling.Step.{Step}
 use Rattle.mb_reading.specs.declared.filling.Step.TheVariants.{Added, Outside, TooDeep}
+use Rattle.mb_tables.specs.Table.{width}
 use Rattle.mb_tables.specs.declared.cell.Cell.{Cell}
 use Rattle.mb_tables.specs.declared.cell.Cell.TheVariants.{Blob, Int, Null, Other, Text}
 use Rattle.mb_tables.specs.declared.table.TableName.{TableName}
@@ -17,7 +18,7 @@ use Rattle.sqlite_value.specs.Order.{Row}
 use Rattle.mb_file.specs.Cursor.{Stored}
 use Rattle.mb_file.specs.Record.{values_in}
 use Rattle.mb_file.specs.RowAt.{IsRowAt}
-use Rattle.mb_file.specs.SetTable.{if_placed, row_read, set_row, step_of}
+use Rattle.mb_file.specs.SetTable.{if_placed, row_read, step_of}
 use Rattle.mb_file.specs.declared.columns.Columns.{Columns}
 
 from_one : {X : Type 0} (side : X → Ordering) (xs : List X) (x : X) (rest : List X) → from_cut side xs ≡ x ∷ rest → IsIn x xs
@@ -73,19 +74,27 @@ not_added (Int z ∷ Int c ∷ Int r ∷ more) e = by (int_lt z (pos 31)) e
     by true e = let h = e in cc
     by false e = let h = e in cc
 
-module _ (table : TableName) (columns : Columns) (stored : Stored) (row : List Cell) (step : Step) where
+module _ (table : TableName) (row : List Cell) (step : Step) (is : step ≡ step_of table row) where
   -- a row that is added is one of the set
-  pub row_added : row_read table columns stored ≡ Some row → step ≡ step_of table row → step ≡ Added → Some row ≡ set_row table columns stored
-  row_added read is added = sym (ap (if_placed table) read ∙ by (is_placed table row) refl)
+  pub row_added : step ≡ Added → Some row ≡ if_placed table (Some row)
+  row_added added = sym (by (is_placed table row) refl)
     where
       by : (placed : Bool) → is_placed table row ≡ placed → cond placed (Some row) None ≡ Some row
       by true e = refl
       by false e = absurd (not_added row (let h = rw e at is in let a = added in cc))
 
   -- another one isn't
-  pub row_passed : row_read table columns stored ≡ Some row → step ≡ step_of table row → ¬ (step ≡ Added) → None ≡ set_row table columns stored
-  row_passed read is added = sym (ap (if_placed table) read ∙ by (is_placed table row) refl)
+  pub row_passed : ¬ (step ≡ Added) → None ≡ if_placed table (Some row)
+  row_passed added = sym (by (is_placed table row) refl)
     where
       by : (placed : Bool) → is_placed table row ≡ placed → cond placed (Some row) None ≡ None
       by true e = absurd (added (rw e at is))
       by false e = refl
+
+-- a row of the set is as wide as the row was
+pub wide_if : (table : TableName) (row : List Cell) (o : Option (List Cell)) → o ≡ if_placed table (Some row) → length row ≡ width table → IfSome o (λ r. length r ≡ width table)
+wide_if table row o is wide = subst (λ (o : Option (List Cell)). IfSome o (λ r. length r ≡ width table)) (sym is) (by (is_placed table row))
+  where
+    by : (placed : Bool) → IfSome (cond placed (Some row) None) (λ r. length r ≡ width table)
+    by true = wide
+    by false = tt

@@ -4,6 +4,8 @@ pub mod Errors
 pub mod Faults
 pub mod FilePages
 pub mod KeyOrder
+pub mod Listing
+pub mod Noted
 pub mod Numbers
 pub mod Record
 pub mod RowAt

@@ -1,9 +1,10 @@
 // A table of a set: its rows in the order of its tree, and by their keys.
-ghost use Rattle.std.specs.Prelude.{◌≡◌, ◌≤◌, true, All, IfOk, IfSome, drop, length, take};
+ghost use Rattle.std.specs.Prelude.{◌≡◌, ◌-◌, ◌^◌, ◌≤◌, true, All, IfOk, IfSome, drop, length, min, sum_by, take};
 ghost use Rattle.mb_tables.specs.Key.{has_key};
 ghost use Rattle.mb_tables.specs.Table.{width};
 ghost use Rattle.mb_file.specs.FilePages.{GoesOn, pages_of};
-ghost use Rattle.mb_file.specs.Scan.{Scans};
+ghost use Rattle.mb_file.specs.Listing.{Lists};
+ghost use Rattle.mb_store.specs.Sizes.{row_size};
 
 use crate::FileFault;
 use crate::numbers::number_of_key;
@@ -47,12 +48,12 @@ impl Listing {
         limit: u64,
     ) -> Result<Vec<Row>, FileFault>
         ensures widths { IfOk result (λ rows. All (λ row. length row ≡ width table) rows.items) }
-        ensures stands { Scans source.old.pages source.new.pages self.old.of.root table
-            self.old.of.columns self.old.scan
-            (λ Stands all. Stands self.new.scan
+        ensures lists { Lists source.old.pages source.new.pages source.old.secret table self.old
+            (λ Listed all. Listed self.new
             × IfOk result (λ rows. rows.items ≡ take limit (drop from all))) }
         ensures limit { IfOk result (λ rows. length rows.items ≤ limit) }
         ensures same { self.new ≡ record self.old { scan = self.new.scan } }
+        ensures secret { source.new.secret ≡ source.old.secret }
         ensures kept { GoesOn source.old.pages source.new.pages }
         ensures pages { pages_of source.new.pages ≡ pages_of source.old.pages }
     {
@@ -65,10 +66,12 @@ impl Listing {
         alloc: Global,
         source: &mut Source<D>,
     ) -> Result<u64, FileFault>
-        ensures stands { Scans source.old.pages source.new.pages self.old.of.root self.old.table
-            self.old.of.columns self.old.scan
-            (λ Stands all. Stands self.new.scan) }
+        ensures lists { Lists source.old.pages source.new.pages source.old.secret
+            self.old.table self.old
+            (λ Listed all. Listed self.new
+            × IfOk result (λ count. count ≡ length all)) }
         ensures same { self.new ≡ record self.old { scan = self.new.scan } }
+        ensures secret { source.new.secret ≡ source.old.secret }
         ensures kept { GoesOn source.old.pages source.new.pages }
         ensures pages { pages_of source.new.pages ≡ pages_of source.old.pages }
     {
@@ -82,10 +85,12 @@ impl Listing {
         alloc: Global,
         source: &mut Source<D>,
     ) -> Result<u64, FileFault>
-        ensures stands { Scans source.old.pages source.new.pages self.old.of.root self.old.table
-            self.old.of.columns self.old.scan
-            (λ Stands all. Stands self.new.scan) }
+        ensures lists { Lists source.old.pages source.new.pages source.old.secret
+            self.old.table self.old
+            (λ Listed all. Listed self.new
+            × IfOk result (λ size. size ≡ min (sum_by row_size all) (2 ^ 64 - 1))) }
         ensures same { self.new ≡ record self.old { scan = self.new.scan } }
+        ensures secret { source.new.secret ≡ source.old.secret }
         ensures kept { GoesOn source.old.pages source.new.pages }
         ensures pages { pages_of source.new.pages ≡ pages_of source.old.pages }
     {

@@ -1,11 +1,12 @@
 // Pages of the rows of a table, and a reading of all that weren't read yet.
-ghost use Rattle.std.specs.Prelude.{◌≡◌, ℕ, ◌≤◌, All, IfOk, OnOk, drop, length, take};
+ghost use Rattle.std.specs.Prelude.{◌≡◌, ℕ, ◌≤◌, All, IfOk, None, OnOk, drop, length, take};
 ghost use Rattle.mb_tables.specs.Table.{width};
 ghost use Rattle.sqlite_btree.specs.Chain.{Layout};
 ghost use Rattle.sqlite_btree.specs.Stored.{IsTable};
 ghost use Rattle.sqlite_pages.specs.PageMap.{PageMap};
 ghost use Rattle.mb_file.specs.Course.{has_key};
 ghost use Rattle.mb_file.specs.FilePages.{GoesOn, pages_of};
+ghost use Rattle.mb_file.specs.Noted.{IsNotedAs, KeepsNotes};
 ghost use Rattle.mb_file.specs.Scan.{IsScan, Reaches, Scans};
 
 use crate::FileFault;
@@ -24,6 +25,7 @@ impl Scan {
             → IsScan layout usable pages table columns rows self.old
             → IsScan layout usable pages table columns rows self.new }
         ensures place { self.new.position ≤ to }
+        ensures same { IsNotedAs self.old self.new }
         ensures kind { has_key self.new.course ≡ has_key self.old.course }
     {
         if to < self.position {
@@ -44,6 +46,9 @@ impl Scan {
             self.old
             (λ Stands all. IfOk result (λ found. Stands self.new
             × Reaches all to self.new.position found)) }
+        ensures notes { KeepsNotes source.old.pages source.new.pages of.now.root source.old.secret
+            table of.now.columns self.old self.new }
+        ensures secret { source.new.secret ≡ source.old.secret }
         ensures kind { has_key self.new.course ≡ has_key self.old.course }
         ensures kept { GoesOn source.old.pages source.new.pages }
         ensures pages { pages_of source.new.pages ≡ pages_of source.old.pages }
@@ -72,6 +77,9 @@ impl Scan {
             × (rows.items ≡ take limit (drop self.old.position all)))) }
         ensures widths { IfOk result (λ rows. All (λ row. length row ≡ width table) rows.items) }
         ensures limit { IfOk result (λ rows. length rows.items ≤ limit) }
+        ensures notes { KeepsNotes source.old.pages source.new.pages of.now.root source.old.secret
+            table of.now.columns self.old self.new }
+        ensures secret { source.new.secret ≡ source.old.secret }
         ensures kind { has_key self.new.course ≡ has_key self.old.course }
         ensures kept { GoesOn source.old.pages source.new.pages }
         ensures pages { pages_of source.new.pages ≡ pages_of source.old.pages }
@@ -105,6 +113,9 @@ impl Scan {
             × (rows.items ≡ take limit (drop from all)))) }
         ensures widths { IfOk result (λ rows. All (λ row. length row ≡ width table) rows.items) }
         ensures limit { IfOk result (λ rows. length rows.items ≤ limit) }
+        ensures notes { KeepsNotes source.old.pages source.new.pages of.now.root source.old.secret
+            table of.now.columns self.old self.new }
+        ensures secret { source.new.secret ≡ source.old.secret }
         ensures kind { has_key self.new.course ≡ has_key self.old.course }
         ensures kept { GoesOn source.old.pages source.new.pages }
         ensures pages { pages_of source.new.pages ≡ pages_of source.old.pages }
@@ -131,6 +142,9 @@ impl Scan {
             × IfOk result (λ rows. rows.items ≡ take limit (drop from all))) }
         ensures widths { IfOk result (λ rows. All (λ row. length row ≡ width table) rows.items) }
         ensures limit { IfOk result (λ rows. length rows.items ≤ limit) }
+        ensures notes { KeepsNotes source.old.pages source.new.pages of.now.root source.old.secret
+            table of.now.columns self.old self.new }
+        ensures secret { source.new.secret ≡ source.old.secret }
         ensures kind { has_key self.new.course ≡ has_key self.old.course }
         ensures kept { GoesOn source.old.pages source.new.pages }
         ensures pages { pages_of source.new.pages ≡ pages_of source.old.pages }
@@ -153,6 +167,10 @@ impl Scan {
         ensures stands { Scans source.old.pages source.new.pages of.now.root table of.now.columns
             self.old
             (λ Stands all. OnOk result (Stands self.new)) }
+        ensures whole { OnOk result (self.new.unseen ≡ None) }
+        ensures notes { KeepsNotes source.old.pages source.new.pages of.now.root source.old.secret
+            table of.now.columns self.old self.new }
+        ensures secret { source.new.secret ≡ source.old.secret }
         ensures kind { has_key self.new.course ≡ has_key self.old.course }
         ensures kept { GoesOn source.old.pages source.new.pages }
         ensures pages { pages_of source.new.pages ≡ pages_of source.old.pages }
@@ -179,6 +197,10 @@ impl Scan {
         ensures stands { Scans source.old.pages source.new.pages of.now.root table of.now.columns
             self.old
             (λ Stands all. Stands self.new) }
+        ensures whole { OnOk result (self.new.unseen ≡ None) }
+        ensures notes { KeepsNotes source.old.pages source.new.pages of.now.root source.old.secret
+            table of.now.columns self.old self.new }
+        ensures secret { source.new.secret ≡ source.old.secret }
         ensures kind { has_key self.new.course ≡ has_key self.old.course }
         ensures kept { GoesOn source.old.pages source.new.pages }
         ensures pages { pages_of source.new.pages ≡ pages_of source.old.pages }

@@ -7,7 +7,7 @@ ghost use Rattle.sqlite_pages.specs.Calls.{Continues};
 ghost use Rattle.mb_file.specs.FilePages.{pages_of};
 ghost use Rattle.mb_file.specs.Record.{values_in};
 ghost use Rattle.mb_file.specs.RowAt.{GivesRowAt, ReadsRecord};
-ghost use Rattle.mb_file.specs.SetTable.{step_of};
+ghost use Rattle.mb_file.specs.SetTable.{if_placed, step_of};
 
 use crate::FileFault;
 use crate::columns::Columns;
@@ -51,6 +51,13 @@ pub(crate) fn taken(
         misplaced(&row)
     };
     Ok((row, step))
+}
+
+// A row that is one of the set, None of another one.
+pub(crate) fn if_added(row: Row, step: Step) -> Option<Row>
+    ensures { (table : _) → step ≡ step_of table row → result ≡ if_placed table (Some row) }
+{
+    if step == Step::Added { Some(row) } else { None }
 }
 
 impl SetTable {

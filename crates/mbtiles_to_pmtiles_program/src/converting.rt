@@ -125,7 +125,9 @@ fn convert_beside(
     let Ok(mut medium) = FileMedium::open(rt, beside) else {
         return Err(ConversionOutcome::MediumFault);
     };
-    let part = part_intervals(rt.alloc(), flags.part)?;
+    let Ok(part) = part_intervals(rt.alloc(), flags.part) else {
+        return Err(ConversionOutcome::OutOfMemory);
+    };
     let files = (first.as_str(), rest);
     match convert_pages(rt, (flags, &part), files, &mut medium) {
         Paged::Ended(answer) => answer,

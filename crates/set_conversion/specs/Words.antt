@@ -1,6 +1,6 @@
 -- What the words of a conversion of sets ask for.
 use Rattle.std.specs.Prelude.{◌≡◌, ℕ, Bool, true, false, List, [], ◌∷◌, ◌++◌, if◌then◌else◌, nat_eq, Option, Some, None, codes, refl}
-use Rattle.std.specs.Option.{option_and_then, option_map}
+use Rattle.std.specs.Option.{option_map}
 use Rattle.std.specs.Str.{bytes_eq}
 use Rattle.set_conversion.specs.PartWords.{after_number, is_number}
 use Rattle.set_conversion.specs.declared.part.SetPart.{SetPart}
@@ -8,6 +8,8 @@ use Rattle.set_conversion.specs.declared.part.SetPart.TheVariants.{Whole, Below,
 use Rattle.set_conversion.specs.declared.part_words.Awaited.{Awaited}
 use Rattle.set_conversion.specs.declared.part_words.Awaited.TheVariants.{Any, Zoom, First}
 use Rattle.set_conversion.specs.declared.words.ConversionFlags.{ConversionFlags}
+use Rattle.set_conversion.specs.declared.words.WordRead.{WordRead}
+use Rattle.set_conversion.specs.declared.words.WordRead.TheVariants.{Flags, File, Rest, Other}
 
 -- flags, and files: that of the base, those of its patches in their order, and that of the archive
 pub record Asked : Type 0 where
@@ -38,7 +40,7 @@ with_flag flags word =
 
 -- whether no part is named
 abbrev pub is_whole : ConversionFlags → Bool
-is_whole flags = elim flags.part [ Whole ↦ true | Below root ↦ false | Ids first last ↦ false ]
+is_whole flags = elim flags.part [ Whole ↦ true | Below z x y ↦ false | Ids first last ↦ false ]
 
 -- the numbers of a part stand behind its flag, of which there is one
 abbrev pub with_part : ConversionFlags → Awaited → Option (Awaited × ConversionFlags)
@@ -64,15 +66,27 @@ with_files files (word ∷ words) = with_files (files ++ (word ∷ [])) words
 abbrev pub ended : Awaited → ConversionFlags → List (List ℕ) → Option Asked
 ended awaited flags files = if is_number awaited then None else enough flags files
 
+-- what a word is: flags in any order, numbers behind that of a part, files, and `--`
+abbrev pub of_flags : Option (Awaited × ConversionFlags) → WordRead
+of_flags None = Other
+of_flags (Some n) = Flags n.0 n.1
+
+abbrev pub word_read : Awaited → ConversionFlags → List ℕ → WordRead
+word_read awaited flags word =
+    if is_number awaited then of_flags (with_number awaited flags word)
+    else (if bytes_eq word (codes "--") then Rest
+    else (if is_option word then of_flags (with_word flags word) else File))
+
 -- what words ask for that stand behind these flags and files: flags anywhere in front of `--`,
 -- and behind it files alone
 abbrev pub asked_after : Awaited → ConversionFlags → List (List ℕ) → List (List ℕ) → Option Asked
 asked_after awaited flags files [] = ended awaited flags files
-asked_after awaited flags files (word ∷ words) =
-    if is_number awaited then option_and_then (λ n. asked_after n.0 n.1 files words) (with_number awaited flags word)
-    else (if bytes_eq word (codes "--") then enough flags (with_files files words)
-    else (if is_option word then option_and_then (λ n. asked_after n.0 n.1 files words) (with_word flags word)
-    else asked_after Any flags (files ++ (word ∷ [])) words))
+asked_after awaited flags files (word ∷ words) = elim (word_read awaited flags word) [
+  | Flags next more ↦ asked_after next more files words
+  | File ↦ asked_after Any flags (files ++ (word ∷ [])) words
+  | Rest ↦ enough flags (with_files files words)
+  | Other ↦ None
+]
 
 abbrev pub no_flags : ConversionFlags
 no_flags = record { force = false; verify = false; hash = false; overwrite = false; strict = false; part = Whole }
@@ -106,7 +120,7 @@ pub no_words : asked_in [] ≡ None
 no_words = refl
 
 pub a_subtree : asked_in (codes "--part" ∷ codes "2" ∷ codes "3" ∷ codes "0" ∷ codes "a" ∷ codes "b" ∷ []) ≡
-    Some (asked (record no_flags { part = Below (record { z = 2; x = 3; y = 0 }) }) (codes "a" ∷ codes "b" ∷ []))
+    Some (asked (record no_flags { part = Below 2 3 0 }) (codes "a" ∷ codes "b" ∷ []))
 a_subtree = refl
 
 pub some_ids : asked_in (codes "a" ∷ codes "--ids" ∷ codes "0" ∷ codes "20" ∷ codes "b" ∷ []) ≡

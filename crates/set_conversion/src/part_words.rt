@@ -1,10 +1,10 @@
 // The numbers that name a part of a set, word by word.
 ghost use Rattle.std.specs.Prelude.{◌≡◌};
-ghost use Rattle.set_conversion.specs.PartWords.{after_number, coord_at, is_number, with_ids};
+ghost use Rattle.set_conversion.specs.PartWords.{after_number, is_number, with_ids, with_tile};
 
-use crate::part::SetPart;
+use crate::part::{SetPart, coord_at};
 use line_words::parse_number;
-use tile_ids::{MAX_TILE_ID, TileCoord};
+use tile_ids::MAX_TILE_ID;
 
 /// What the next word is read as.
 #[derive(Clone, Copy, Debug)]
@@ -30,14 +30,12 @@ pub(crate) fn is_number(awaited: Awaited) -> bool
     !matches!(awaited, Awaited::Any)
 }
 
-// The tile of a zoom, a column and a row, if there is one.
-fn coord_at(z: u8, x: u32, y: u32) -> Option<TileCoord>
-    ensures { result ≡ coord_at z x y }
+// The part of a tile and all tiles below it, if there is such a tile.
+fn with_tile(zoom: u8, column: u32, row: u32) -> Option<(Awaited, SetPart)>
+    ensures { result ≡ with_tile zoom column row }
 {
-    match TileCoord::new(z, x, y) {
-        Ok(coord) => Some(coord),
-        Err(_) => None,
-    }
+    coord_at(zoom, column, row)?;
+    Some((Awaited::Any, SetPart::Below { zoom, column, row }))
 }
 
 // The part of the ids from one to another, if there are some.
@@ -71,8 +69,7 @@ pub(crate) fn after_number(
         }
         Awaited::Row(z, x) => {
             let y = parse_number(word, u64::from(u32::MAX))?;
-            let root = coord_at(z, x, y as u32)?;
-            Some((Awaited::Any, SetPart::Below(root)))
+            with_tile(z, x, y as u32)
         }
         Awaited::First => {
             let first = parse_number(word, MAX_TILE_ID)?;

@@ -1,6 +1,6 @@
 // What the words of a conversion of sets ask for.
 ghost use Rattle.std.specs.Prelude.{◌≡◌, ◌≤◌, ◌++◌, ◌∷◌, [], length, None, Some, IfOk, IfSome, MatchOption};
-ghost use Rattle.set_conversion.specs.Words.{asked, asked_after, asked_in, ended, enough, is_option, is_whole, no_flags, with_files, with_flag, with_number, with_part, with_word};
+ghost use Rattle.set_conversion.specs.Words.{asked, asked_after, asked_in, ended, enough, is_option, is_whole, no_flags, of_flags, with_files, with_flag, with_number, with_part, with_word, word_read};
 
 use crate::part::SetPart;
 use crate::part_words::{Awaited, after_number, is_number};
@@ -162,6 +162,42 @@ fn ended(
     enough(flags, files)
 }
 
+// What a word in front of `--` is.
+#[derive(Clone, Copy, Debug)]
+enum WordRead {
+    // A flag or a number: the flags with it, and what is read behind it.
+    Flags(Awaited, ConversionFlags),
+    // A file.
+    File,
+    // The word behind which all are files.
+    Rest,
+    // None of these.
+    Other,
+}
+
+fn of_flags(read: Option<(Awaited, ConversionFlags)>) -> WordRead
+    ensures { result ≡ of_flags read }
+{
+    match read {
+        Some((next, flags)) => WordRead::Flags(next, flags),
+        None => WordRead::Other,
+    }
+}
+
+// What a word is behind these flags.
+fn word_read(awaited: Awaited, flags: ConversionFlags, word: &str) -> WordRead
+    ensures { result ≡ word_read awaited flags word.now }
+{
+    if is_number(awaited) {
+        return of_flags(with_number(awaited, flags, word));
+    }
+    match word {
+        "--" => WordRead::Rest,
+        text if is_option(text.as_bytes()) => of_flags(with_word(flags, text)),
+        _ => WordRead::File,
+    }
+}
+
 // What words ask for behind flags and files.
 fn asked_after(
     alloc: Global,
@@ -178,25 +214,17 @@ fn asked_after(
     let [word, rest @ ..] = words else {
         return Ok(ended(awaited, flags, files));
     };
-    if is_number(awaited) {
-        return match with_number(awaited, flags, word.as_str()) {
-            Some((next, flags)) => asked_after(alloc, next, flags, files, rest),
-            None => Ok(None),
-        };
-    }
-    match word.as_str() {
-        "--" => {
-            let files = with_files(alloc, files, rest)?;
-            Ok(enough(flags, files))
-        }
-        text if is_option(text.as_bytes()) => match with_word(flags, text) {
-            Some((next, flags)) => asked_after(alloc, next, flags, files, rest),
-            None => Ok(None),
-        },
-        _ => {
+    match word_read(awaited, flags, word.as_str()) {
+        WordRead::Flags(next, flags) => asked_after(alloc, next, flags, files, rest),
+        WordRead::File => {
             let files = with_file(alloc, files, word)?;
             asked_after(alloc, Awaited::Any, flags, files, rest)
         }
+        WordRead::Rest => {
+            let files = with_files(alloc, files, rest)?;
+            Ok(enough(flags, files))
+        }
+        WordRead::Other => Ok(None),
     }
 }
 

@@ -4,7 +4,7 @@ use Rattle.std.proofs.lemmas.List.Elements.{All-push}
 use Rattle.mb_tables.specs.Table.{width}
 use Rattle.mb_tables.specs.declared.cell.Cell.{Cell}
 use Rattle.mb_file.specs.Scan.{Goes}
-use Rattle.mb_file.proofs.ScanLemmas.{all_gathered, ends_gathered, scans_then}
+use Rattle.mb_file.proofs.ScanLemmas.{all_gathered, ends_gathered, notes_then, scans_then}
 use Rattle.mb_file.proofs.scan.Scan.gather.Goals as goal
 
 pub rows-preserved : goal.rows-preserved
@@ -17,6 +17,10 @@ rows-preserved g c =
     record {
       count = omega (arith, long, c.rows.invariant.count);
       kind = search rules;
+      secret = search rules;
+      notes =
+          notes_then c.args.source.now.pages c.rows.source.pages c.next_row.new.source.pages c.args.of.now.root c.args.table c.args.of.now.columns c.rows.invariant.kept c.rows.invariant.pages
+          c.args.source.now.secret c.rows.source.secret c.rows.invariant.secret c.args.self.now c.rows.self c.next_row.new.self (λ all. drop c.args.self.now.position all ≡ c.rows.rows.items ++ drop c.rows.self.position all) c.next_row.ensures.kept c.rows.invariant.stands c.rows.invariant.notes c.next_row.ensures.notes;
       pages = search rules;
       kept = search rules;
       stands =
@@ -45,3 +49,18 @@ returns-in_default-clause-stands g c =
     (λ Stands all parts h.
     let goes = subst (λ (o : Option (List Cell)). Goes all c.rows.self.position c.next_row.new.self.position o) c.in_default.is h.1 in
     (h.0, ends_gathered c.args.limit c.rows.rows.items _ _ parts goes.0 c.rows.invariant.limit))
+
+pub returns-in_err-row-clause-notes : goal.returns-in_err-row-clause-notes
+returns-in_err-row-clause-notes g c =
+    notes_then c.args.source.now.pages c.rows.source.pages c.next_row.new.source.pages c.args.of.now.root c.args.table c.args.of.now.columns c.rows.invariant.kept c.rows.invariant.pages
+    c.args.source.now.secret c.rows.source.secret c.rows.invariant.secret c.args.self.now c.rows.self c.next_row.new.self (λ all. drop c.args.self.now.position all ≡ c.rows.rows.items ++ drop c.rows.self.position all) c.next_row.ensures.kept c.rows.invariant.stands c.rows.invariant.notes c.next_row.ensures.notes
+
+pub returns-in_default-clause-notes : goal.returns-in_default-clause-notes
+returns-in_default-clause-notes g c =
+    notes_then c.args.source.now.pages c.rows.source.pages c.next_row.new.source.pages c.args.of.now.root c.args.table c.args.of.now.columns c.rows.invariant.kept c.rows.invariant.pages
+    c.args.source.now.secret c.rows.source.secret c.rows.invariant.secret c.args.self.now c.rows.self c.next_row.new.self (λ all. drop c.args.self.now.position all ≡ c.rows.rows.items ++ drop c.rows.self.position all) c.next_row.ensures.kept c.rows.invariant.stands c.rows.invariant.notes c.next_row.ensures.notes
+
+pub returns-in_err-push-clause-notes : goal.returns-in_err-push-clause-notes
+returns-in_err-push-clause-notes g c =
+    notes_then c.args.source.now.pages c.rows.source.pages c.next_row.new.source.pages c.args.of.now.root c.args.table c.args.of.now.columns c.rows.invariant.kept c.rows.invariant.pages
+    c.args.source.now.secret c.rows.source.secret c.rows.invariant.secret c.args.self.now c.rows.self c.next_row.new.self (λ all. drop c.args.self.now.position all ≡ c.rows.rows.items ++ drop c.rows.self.position all) c.next_row.ensures.kept c.rows.invariant.stands c.rows.invariant.notes c.next_row.ensures.notes

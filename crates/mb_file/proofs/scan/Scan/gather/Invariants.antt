@@ -3,6 +3,7 @@ use Rattle.std.specs.Prelude.{All}
 use Rattle.mb_tables.specs.Table.{width}
 use Rattle.mb_file.specs.Course.{has_key}
 use Rattle.mb_file.specs.FilePages.{GoesOn, pages_of}
+use Rattle.mb_file.specs.Noted.{KeepsNotes}
 use Rattle.mb_file.specs.Scan.{Scans}
 use Rattle.mb_file.proofs.scan.Scan.gather.Given as goal
 
@@ -12,8 +13,10 @@ invariant-rows g l = record {
   limit : length l.rows.items ≤ l.limit;
   widths : All (λ row. length row ≡ width l.table) l.rows.items;
   kind : has_key l.self.course ≡ has_key l.fn.self.course;
+  secret : l.source.secret ≡ l.fn.source.secret;
   pages : pages_of l.source.pages ≡ pages_of l.fn.source.pages;
   kept : GoesOn l.fn.source.pages l.source.pages;
   stands : Scans l.fn.source.pages l.source.pages l.of.root l.table l.of.columns l.fn.self (λ Stands all. Stands l.self
       × (drop l.fn.self.position all ≡ l.rows.items ++ drop l.self.position all));
+  notes : KeepsNotes l.fn.source.pages l.source.pages l.of.root l.fn.source.secret l.table l.of.columns l.fn.self l.self;
 }

@@ -1,16 +1,51 @@
-use Rattle.std.proofs.Common.{List, Option, rules, subst, sym, ◌∙◌, ◌≡◌}
+use Rattle.std.proofs.Common.{ap, List, Option, refl, rules, subst, sym, ℕ, ◌∙◌, ◌≡◌}
 use Rattle.mb_tables.specs.declared.cell.Cell.{Cell}
+use Rattle.mb_file.specs.Course.{row_in}
 use Rattle.mb_file.specs.FilePages.{GoesOn, IsTrusted}
+use Rattle.mb_file.specs.Noted.{Notes}
 use Rattle.mb_file.specs.Scan.{behind}
-use Rattle.mb_file.proofs.ScanLemmas.{ends_scan, leaves_row, Steps, takes_row}
+use Rattle.mb_file.specs.SetTable.{set_row}
+use Rattle.mb_file.proofs.ScanLemmas.{ends_scan, leaves_row, notes_all, notes_row, notes_same, Steps, takes_row}
+use Rattle.mb_file.specs.declared.scan.Scan.{Scan}
 use Rattle.mb_file.proofs.scan.Scan.next_row.Goals as goal
+
+pub returns-in_err-advance-clause-notes : goal.returns-in_err-advance-clause-notes
+returns-in_err-advance-clause-notes g c =
+    notes_same c.args.source.now.pages c.rows.source.pages c.advance.new.pages c.args.of.now.root c.args.table c.args.of.now.columns c.rows.invariant.kept c.rows.invariant.pages
+    c.args.self.now c.rows.self (record c.rows.self { course = c.advance.new.self }) c.advance.new.self c.advance.ensures.kept c.rows.invariant.stands c.args.source.now.secret c.rows.invariant.notes
+    (record { numbers = refl; count = refl; size = refl; unseen = refl })
+
+pub returns-in_err-end-clause-notes : goal.returns-in_err-end-clause-notes
+returns-in_err-end-clause-notes g c =
+    let same = c.in_err-end.ensures.failed in
+    notes_same c.args.source.now.pages c.rows.source.pages c.advance.new.pages c.args.of.now.root c.args.table c.args.of.now.columns c.rows.invariant.kept c.rows.invariant.pages
+    c.args.self.now c.rows.self c.end.new.self c.advance.new.self c.advance.ensures.kept c.rows.invariant.stands c.args.source.now.secret c.rows.invariant.notes
+    (record { numbers = ap (λ (s : Scan). s.numbered.items) same; count = ap (λ (s : Scan). s.count) same; size = ap (λ (s : Scan). s.size) same; unseen = ap (λ (s : Scan). s.unseen) same })
+
+pub returns-in_err-row-clause-notes : goal.returns-in_err-row-clause-notes
+returns-in_err-row-clause-notes g c =
+    let goes = subst (λ p. GoesOn c.rows.source.pages p) (sym c.take.ensures.pages) c.advance.ensures.kept in
+    let same = c.in_err-row.ensures.failed in
+    notes_same c.args.source.now.pages c.rows.source.pages c.take.new.source.pages c.args.of.now.root c.args.table c.args.of.now.columns c.rows.invariant.kept c.rows.invariant.pages
+    c.args.self.now c.rows.self c.take.new.self c.advance.new.self goes c.rows.invariant.stands c.args.source.now.secret c.rows.invariant.notes
+    (record { numbers = same.numbers; count = same.count; size = same.size; unseen = same.unseen })
 
 pub returns-then-not-branch-clause-stands : goal.returns-then-not-branch-clause-stands
 returns-then-not-branch-clause-stands g c =
+    let ended = c.in_ok-end.ensures.ended in
     let steps = subst (Steps c.args.source.now.pages c.rows.source.pages c.advance.new.pages c.args.of.now.root c.args.table c.args.of.now.columns c.rows.invariant.kept c.rows.invariant.pages
     c.args.self.now c.rows.self c.end.new.self c.advance.new.self c.advance.ensures.kept c.rows.invariant.stands) c.if-not-branch.true c.in_ok-advance.ensures.taken in
     ends_scan c.args.source.now.pages c.rows.source.pages c.advance.new.pages c.args.of.now.root c.args.table c.args.of.now.columns c.rows.invariant.kept c.rows.invariant.pages
-    c.args.self.now c.rows.self c.end.new.self c.advance.new.self c.advance.ensures.kept c.rows.invariant.stands steps c.end.ensures.course c.end.ensures.place
+    c.args.self.now c.rows.self c.end.new.self c.advance.new.self c.advance.ensures.kept c.rows.invariant.stands steps (ap (λ (s : Scan). s.course) ended) (ap (λ (s : Scan). s.position) ended) (ap (λ (s : Scan). s.unseen) ended)
+
+pub returns-then-not-branch-clause-notes : goal.returns-then-not-branch-clause-notes
+returns-then-not-branch-clause-notes g c =
+    let ended = c.in_ok-end.ensures.ended in
+    let steps = subst (Steps c.args.source.now.pages c.rows.source.pages c.advance.new.pages c.args.of.now.root c.args.table c.args.of.now.columns c.rows.invariant.kept c.rows.invariant.pages
+    c.args.self.now c.rows.self c.end.new.self c.advance.new.self c.advance.ensures.kept c.rows.invariant.stands) c.if-not-branch.true c.in_ok-advance.ensures.taken in
+    notes_all c.args.source.now.pages c.rows.source.pages c.advance.new.pages c.args.of.now.root c.args.table c.args.of.now.columns c.rows.invariant.kept c.rows.invariant.pages
+    c.args.self.now c.rows.self c.end.new.self c.advance.new.self c.advance.ensures.kept c.rows.invariant.stands c.args.source.now.secret c.rows.invariant.notes steps
+    (ap (λ (s : Scan). s.unseen) ended) (ap (λ (s : Scan). s.numbered.items) ended) (ap (λ (s : Scan). s.count) ended) (ap (λ (s : Scan). s.size) ended)
 
 pub returns-in-Some-clause-stands : goal.returns-in-Some-clause-stands
 returns-in-Some-clause-stands g c =
@@ -18,8 +53,22 @@ returns-in-Some-clause-stands g c =
     let steps = subst (Steps c.args.source.now.pages c.rows.source.pages c.take.new.source.pages c.args.of.now.root c.args.table c.args.of.now.columns c.rows.invariant.kept c.rows.invariant.pages
     c.args.self.now c.rows.self c.take.new.self c.advance.new.self goes c.rows.invariant.stands) c.if-not-branch.false (λ trusted. c.in_ok-advance.ensures.taken (subst (λ p. IsTrusted p) c.take.ensures.pages trusted)) in
     takes_row c.args.source.now.pages c.rows.source.pages c.take.new.source.pages c.args.of.now.root c.args.table c.args.of.now.columns c.rows.invariant.kept c.rows.invariant.pages
-    c.args.self.now c.rows.self c.take.new.self c.advance.new.self goes c.rows.invariant.stands steps c.take.ensures.course c.in-Some.row
+    c.args.self.now c.rows.self c.take.new.self c.advance.new.self goes c.rows.invariant.stands steps c.take.ensures.course c.in_ok-row.ensures.unseen c.in-Some.row
     (sym c.in-Some.is ∙ c.in_ok-row.ensures.row) (subst (λ (o : Option (List Cell)). c.take.new.self.position ≡ behind c.rows.self.position o) c.in-Some.is c.in_ok-row.ensures.place)
+
+pub returns-in-Some-clause-notes : goal.returns-in-Some-clause-notes
+returns-in-Some-clause-notes g c =
+    let goes = subst (λ p. GoesOn c.rows.source.pages p) (sym c.take.ensures.pages) c.advance.ensures.kept in
+    let steps = subst (Steps c.args.source.now.pages c.rows.source.pages c.take.new.source.pages c.args.of.now.root c.args.table c.args.of.now.columns c.rows.invariant.kept c.rows.invariant.pages
+    c.args.self.now c.rows.self c.take.new.self c.advance.new.self goes c.rows.invariant.stands) c.if-not-branch.false (λ trusted. c.in_ok-advance.ensures.taken (subst (λ p. IsTrusted p) c.take.ensures.pages trusted)) in
+    notes_row c.args.source.now.pages c.rows.source.pages c.take.new.source.pages c.args.of.now.root c.args.table c.args.of.now.columns c.rows.invariant.kept c.rows.invariant.pages
+    c.args.self.now c.rows.self c.take.new.self c.advance.new.self goes c.rows.invariant.stands c.args.source.now.secret c.rows.invariant.notes steps c.in_ok-row.ensures.unseen
+    (λ unseen rowids.
+    let one = c.in_ok-row.ensures.notes unseen rowids in
+    let own : Notes c.rows.source.secret (row_in c.advance.new.self).0 (set_row c.args.table c.args.of.now.columns (row_in c.advance.new.self)) c.rows.self c.take.new.self =
+    record { numbers = one.numbers; count = one.count; size = one.size } in
+    subst (λ (secret : ℕ). Notes secret (row_in c.advance.new.self).0 (set_row c.args.table c.args.of.now.columns (row_in c.advance.new.self)) c.rows.self c.take.new.self) c.rows.invariant.secret own)
+    (λ seen. let same = c.take.ensures.same seen in record { numbers = same.numbers; count = same.count; size = same.size; unseen = same.unseen })
 
 pub rows-preserved : goal.rows-preserved
 rows-preserved g c =
@@ -28,9 +77,18 @@ rows-preserved g c =
     c.args.self.now c.rows.self c.take.new.self c.advance.new.self goes c.rows.invariant.stands) c.if-not-branch.false (λ trusted. c.in_ok-advance.ensures.taken (subst (λ p. IsTrusted p) c.take.ensures.pages trusted)) in
     record {
       kind = search rules;
+      secret = search rules;
       pages = search rules;
       kept = search rules;
       stands = leaves_row c.args.source.now.pages c.rows.source.pages c.take.new.source.pages c.args.of.now.root c.args.table c.args.of.now.columns c.rows.invariant.kept c.rows.invariant.pages
-          c.args.self.now c.rows.self c.take.new.self c.advance.new.self goes c.rows.invariant.stands steps c.take.ensures.course
+          c.args.self.now c.rows.self c.take.new.self c.advance.new.self goes c.rows.invariant.stands steps c.take.ensures.course c.in_ok-row.ensures.unseen
           (sym c.in_default.is ∙ c.in_ok-row.ensures.row) (subst (λ (o : Option (List Cell)). c.take.new.self.position ≡ behind c.rows.self.position o) c.in_default.is c.in_ok-row.ensures.place);
+      notes = notes_row c.args.source.now.pages c.rows.source.pages c.take.new.source.pages c.args.of.now.root c.args.table c.args.of.now.columns c.rows.invariant.kept c.rows.invariant.pages
+          c.args.self.now c.rows.self c.take.new.self c.advance.new.self goes c.rows.invariant.stands c.args.source.now.secret c.rows.invariant.notes steps c.in_ok-row.ensures.unseen
+          (λ unseen rowids.
+          let one = c.in_ok-row.ensures.notes unseen rowids in
+          let own : Notes c.rows.source.secret (row_in c.advance.new.self).0 (set_row c.args.table c.args.of.now.columns (row_in c.advance.new.self)) c.rows.self c.take.new.self =
+          record { numbers = one.numbers; count = one.count; size = one.size } in
+          subst (λ (secret : ℕ). Notes secret (row_in c.advance.new.self).0 (set_row c.args.table c.args.of.now.columns (row_in c.advance.new.self)) c.rows.self c.take.new.self) c.rows.invariant.secret own)
+          (λ seen. let same = c.take.ensures.same seen in record { numbers = same.numbers; count = same.count; size = same.size; unseen = same.unseen });
     }
