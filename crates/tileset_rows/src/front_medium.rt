@@ -25,14 +25,14 @@ impl FrontMedium {
     }
 }
 
-// Writes to the front, where there is no gap before a piece.
-fn write_front(front: &mut MemMedium, offset: u64, piece: &[u8]) -> Result<(), WriteFault> {
+// Writes to the front, where there is no gap before a piece. Whether that is done.
+fn write_front(front: &mut MemMedium, offset: u64, piece: &[u8]) -> bool {
     if offset > front.as_bytes().len() as u64 {
-        return Err(WriteFault::OutOfMemory);
+        return false;
     }
     match front.write_at(offset, piece) {
-        Ok(()) => Ok(()),
-        Err(_) => Err(WriteFault::OutOfMemory),
+        Ok(()) => true,
+        Err(_) => false,
     }
 }
 
@@ -87,6 +87,9 @@ impl Medium for FrontMedium {
         }
         let room = (KEPT - offset) as usize;
         let kept = &piece[..piece.len().min(room)];
-        write_front(&mut self.front, offset, kept)
+        if !write_front(&mut self.front, offset, kept) {
+            return Err(WriteFault::OutOfMemory);
+        }
+        Ok(())
     }
 }
