@@ -91,7 +91,7 @@ pub fn filled_database(alloc: Global, count: u32, words: u32) -> Option<Database
     let mut store = SqliteStore::adopt(alloc, connection, MbtType::Flat);
     for block in 0..count.div_ceil(BLOCK) {
         let from = block * BLOCK;
-        let to = (from + BLOCK).min(count);
+        let to = from.saturating_add(BLOCK).min(count);
         commit_rows(alloc, &mut store, from, to, words)?;
     }
     Some(store)

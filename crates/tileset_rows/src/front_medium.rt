@@ -1,5 +1,5 @@
 // A medium that keeps what is written to its first 16,384 bytes alone, and how long it is. It tells nothing.
-ghost use Rattle.std.specs.Prelude.{None};
+ghost use Rattle.std.specs.Prelude.{◌≡◌, None, IfErr};
 
 use pm_format::{Backend, BackendResponse, Medium, MediumFault, MemMedium, ReadFault, WriteFault};
 use std::alloc::Global;
@@ -26,7 +26,9 @@ impl FrontMedium {
 }
 
 // Writes to the front, where there is no gap before a piece.
-fn write_front(front: &mut MemMedium, offset: u64, piece: &[u8]) -> Result<(), WriteFault> {
+fn write_front(front: &mut MemMedium, offset: u64, piece: &[u8]) -> Result<(), WriteFault>
+    ensures { IfErr result (λ e. e ≡ WriteFault.OutOfMemory) }
+{
     if offset > front.as_bytes().len() as u64 {
         return Err(WriteFault::OutOfMemory);
     }
