@@ -6,6 +6,7 @@ mod MarkLemmas
 mod MetadataLemmas
 mod NotedLemmas
 mod NumberLemmas
+mod OpeningLemmas
 mod OrderLemmas
 mod PageLemmas
 mod RecordLemmas

@@ -1,4 +1,4 @@
-use Rattle.std.proofs.Common.{ap, is_some, sym, ◌∙◌}
+use Rattle.std.proofs.Common.{ap, is_some, ◌∙◌}
 use Rattle.mb_file.proofs.listing.Listing.new.Goals as goal
 
 pub returns-clause-listed : goal.returns-clause-listed
