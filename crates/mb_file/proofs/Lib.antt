@@ -1,12 +1,16 @@
 mod CursorLemmas
 mod FaultLemmas
 mod FindLemmas
+mod KeyLemmas
 mod MarkLemmas
 mod MetadataLemmas
 mod NotedLemmas
 mod NumberLemmas
+mod OpeningLemmas
+mod OrderLemmas
 mod PageLemmas
 mod RecordLemmas
 mod RowLemmas
 mod ScanLemmas
+mod SearchLemmas
 mod UnseenLemmas

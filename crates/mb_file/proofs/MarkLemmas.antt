@@ -1,5 +1,5 @@
 -- The flags of pages.
-use Rattle.std.proofs.Common.{ap, append-nil, arith, Bool, drop, false, inl, inr, length, List, refl, slice_index_or, suc, sym, take, true, zero, [], ℕ, ◌<◌, ◌≤◌, ◌+◌, ◌++◌, ◌∙◌, ◌∷◌, ◌≡◌, ◌⊎◌}
+use Rattle.std.proofs.Common.{ap, arith, Bool, drop, false, inl, inr, length, List, refl, slice_index_or, suc, sym, take, true, zero, [], ℕ, ◌<◌, ◌≤◌, ◌+◌, ◌++◌, ◌∙◌, ◌∷◌, ◌≡◌, ◌⊎◌}
 use Rattle.std.proofs.lemmas.Bool.{cases_lt}
 use Rattle.std.proofs.Math.Seq.{take-append_seam}
 

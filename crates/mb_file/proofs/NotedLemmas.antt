@@ -37,14 +37,35 @@ size_fits : (old new : ℕ) (o : Option (List Cell)) → new ≡ size_behind old
 size_fits old new None is fits = omega (arith, is, fits)
 size_fits old new (Some row) is fits = omega (arith, is)
 
-module _ (secret : ℕ) (table : TableName) (columns : Columns) where
-  pub first_number : (r : Stored) (rest : List Stored) → numbers_of secret table columns (r ∷ rest) ≡ cons_option (number_at secret table columns r) (numbers_of secret table columns rest)
-  unfolding numbers_of
-  first_number r rest = refl
+-- from call to call
+pub noted_trans : (a b c : Scan) → IsNotedAs a b → IsNotedAs b c → IsNotedAs a c
+noted_trans a b c first second = record {
+  numbers = second.numbers ∙ first.numbers;
+  count = second.count ∙ first.count;
+  size = second.size ∙ first.size;
+  unseen = second.unseen ∙ first.unseen;
+}
 
+-- a scan whose rows were all read notes no row
+pub still_after : (first old new : Scan) → (first.unseen ≡ None → IsNotedAs first old) → (old.unseen ≡ None → IsNotedAs old new) → first.unseen ≡ None → IsNotedAs first new
+still_after first old new before after ended = let same = before ended in noted_trans first old new same (after (same.unseen ∙ ended))
+
+pub still_ended : (old new : Scan) → new.numbered.items ≡ old.numbered.items → new.count ≡ old.count → new.size ≡ old.size → new.unseen ≡ None → old.unseen ≡ None → IsNotedAs old new
+still_ended old new numbers count size last ended = record { numbers = numbers; count = count; size = size; unseen = last ∙ sym ended }
+
+module _ (table : TableName) (columns : Columns) where
   pub first_set_row : (r : Stored) (rest : List Stored) → set_rows table columns (r ∷ rest) ≡ cons_option (set_row table columns r) (set_rows table columns rest)
   unfolding set_rows
   first_set_row r rest = refl
+
+module _ (secret : ℕ) (table : TableName) (columns : Columns) where
+  pub no_numbers : numbers_of secret table columns [] ≡ []
+  unfolding numbers_of
+  no_numbers = refl
+
+  pub first_number : (r : Stored) (rest : List Stored) → numbers_of secret table columns (r ∷ rest) ≡ cons_option (number_at secret table columns r) (numbers_of secret table columns rest)
+  unfolding numbers_of
+  first_number r rest = refl
 
   module _ (rows : List Stored) where
     -- before the first row
@@ -78,7 +99,7 @@ module _ (secret : ℕ) (table : TableName) (columns : Columns) where
         ap (λ (ys : List Stored). old.numbered.items ++ numbers_of secret table columns ys) before ∙ ap (λ ys. old.numbered.items ++ ys) (first_number r rest)
         ∙ sym (pushed_then old.numbered.items (numbers_of secret table columns rest) o) ∙ ap (λ xs. xs ++ numbers_of secret table columns rest) (sym one.numbers)
         ∙ ap (λ (ys : List Stored). new.numbered.items ++ numbers_of secret table columns ys) (sym after) in
-        let first : set_rows table columns (rows_from old.unseen rows) ≡ cons_option (set_row table columns r) (set_rows table columns rest) = ap (set_rows table columns) before ∙ first_set_row r rest in
+        let first : set_rows table columns (rows_from old.unseen rows) ≡ cons_option (set_row table columns r) (set_rows table columns rest) = ap (set_rows table columns) before ∙ first_set_row table columns r rest in
         let left : set_rows table columns (rows_from new.unseen rows) ≡ set_rows table columns rest = ap (set_rows table columns) after in
         record {
           numbers = subst (λ (xs : List Numbered). IsPermutation xs (numbers_of secret table columns rows)) numbers notes.numbers;

@@ -1,5 +1,5 @@
 -- Rows with a key have its number.
-use Rattle.std.proofs.Common.{ap, arith, length, List, refl, take, true, [], ℕ, ◌<◌, ◌∷◌, ◌≡◌, ◌≢◌}
+use Rattle.std.proofs.Common.{arith, length, List, refl, take, true, [], ℕ, ◌<◌, ◌∷◌, ◌≡◌}
 use Rattle.mb_tables.proofs.CellLemmas.{cells_eq-Decides}
 use Rattle.mb_tables.specs.Key.{has_key, key_cells}
 use Rattle.mb_tables.specs.Table.{key_of, width}

@@ -1,5 +1,5 @@
 -- A row that a tree finds is one of its rows.
-use Rattle.std.proofs.Common.{ap, ap₂, Bool, cond, false, inl, inr, IfSome, int_lt, is_lt, length, List, None, Option, pos, refl, Some, subst, sym, to_z, of_z, true, w64, [], ℕ, ℤ, ◌∙◌, ◌∷◌, ◌≡◌, SFits}
+use Rattle.std.proofs.Common.{ap, ap₂, Bool, cond, false, inl, inr, IfSome, int_lt, is_lt, length, List, None, Option, option_map, pos, refl, Some, subst, sym, to_z, of_z, true, w64, [], ℕ, ℤ, ◌∙◌, ◌∷◌, ◌≡◌, SFits}
 use Rattle.std.proofs.lemmas.Bool.{cases_Bool}
 use Rattle.std.proofs.lemmas.Int.{to_z-of_z}
 use Rattle.std.proofs.Common.{Ordering}
@@ -7,18 +7,20 @@ use Rattle.sqlite_btree.specs.Batch.{IsFound}
 use Rattle.sqlite_btree.specs.Cut.{from_cut, IsIn}
 use Rattle.sqlite_btree.specs.Stored.{by_rowid}
 use Rattle.mb_reading.specs.Filling.{misplaced}
-use Rattle.mb_reading.specs.Rows.{is_placed, row_in}
+use Rattle.mb_reading.specs.Cells.{place_cell}
+use Rattle.mb_reading.specs.Rows.{hashed_row, is_placed, pair_of, placed_row, row_in}
 use Rattle.mb_reading.specs.declared.filling.Step.{Step}
 use Rattle.mb_reading.specs.declared.filling.Step.TheVariants.{Added, Outside, TooDeep}
 use Rattle.mb_tables.specs.Table.{width}
 use Rattle.mb_tables.specs.declared.cell.Cell.{Cell}
 use Rattle.mb_tables.specs.declared.cell.Cell.TheVariants.{Blob, Int, Null, Other, Text}
 use Rattle.mb_tables.specs.declared.table.TableName.{TableName}
-use Rattle.sqlite_value.specs.Order.{Row}
+use Rattle.mb_tables.specs.declared.table.TableName.TheVariants.{Images, Map, Metadata, TileCache, Tiles, TilesData, TilesShallow, TilesWithHash}
+use Rattle.sqlite_value.specs.Order.{column, Row}
 use Rattle.mb_file.specs.Cursor.{Stored}
 use Rattle.mb_file.specs.Record.{values_in}
 use Rattle.mb_file.specs.RowAt.{IsRowAt}
-use Rattle.mb_file.specs.SetTable.{if_placed, row_read, step_of}
+use Rattle.mb_file.specs.SetTable.{if_placed, row_read, set_row, step_of}
 use Rattle.mb_file.specs.declared.columns.Columns.{Columns}
 
 from_one : {X : Type 0} (side : X → Ordering) (xs : List X) (x : X) (rest : List X) → from_cut side xs ≡ x ∷ rest → IsIn x xs
@@ -98,3 +100,54 @@ wide_if table row o is wide = subst (λ (o : Option (List Cell)). IfSome o (λ r
     by : (placed : Bool) → IfSome (cond placed (Some row) None) (λ r. length r ≡ width table)
     by true = wide
     by false = tt
+
+-- a row is as wide as its table
+wide_row : (table : TableName) (r : Row) (row : List Cell) → row_in table r ≡ Some row → length row ≡ width table
+wide_row table r row read = by table read
+  where
+    mapped : (o : Option Cell) → option_map (placed_row r) o ≡ Some row → length row ≡ 4
+    mapped None e = absurd (let h = e in cc)
+    mapped (Some c) e = let same : row ≡ placed_row r c = cc in ap length same
+
+    paired : (a b : Option Cell) → pair_of a b ≡ Some row → length row ≡ 2
+    paired (Some a) (Some b) e = let same : row ≡ a ∷ b ∷ [] = cc in ap length same
+    paired (Some a) None e = absurd (let h = e in cc)
+    paired None b e = absurd (let h = e in cc)
+
+    hashed : (a b : Option Cell) → hashed_row r a b ≡ Some row → length row ≡ 5
+    hashed (Some a) (Some b) e = let same : row ≡ place_cell (column r 0) ∷ place_cell (column r 1) ∷ place_cell (column r 2) ∷ a ∷ b ∷ [] = cc in ap length same
+    hashed (Some a) None e = absurd (let h = e in cc)
+    hashed None b e = absurd (let h = e in cc)
+
+    by : (table : TableName) → row_in table r ≡ Some row → length row ≡ width table
+    by Tiles e = mapped _ e
+    by TilesWithHash e = hashed _ _ e
+    by Map e = mapped _ e
+    by Images e = paired _ _ e
+    by TilesShallow e = mapped _ e
+    by TilesData e = paired _ _ e
+    by TileCache e = absurd (let h = e in cc)
+    by Metadata e = paired _ _ e
+
+pub wide_set : (table : TableName) (columns : Columns) (r : Stored) (row : List Cell) → set_row table columns r ≡ Some row → length row ≡ width table
+wide_set table columns r row set = by (row_read table columns r) refl set
+  where
+    by : (o : Option (List Cell)) → row_read table columns r ≡ o → if_placed table o ≡ Some row → length row ≡ width table
+    by None read e = absurd (let h = e in cc)
+    by (Some x) read e = placed (is_placed table x) e
+      where
+        placed : (b : Bool) → cond b (Some x) None ≡ Some row → length row ≡ width table
+        placed true e = let same : x ≡ row = cc in wide_row table (values_in columns r.0 r.1) row (read ∙ ap Some same)
+        placed false e = absurd (let h = e in cc)
+
+-- a row of the set has a place, where its table has places
+pub placed_set : (table : TableName) (columns : Columns) (r : Stored) (row : List Cell) → set_row table columns r ≡ Some row → is_placed table row ≡ true
+placed_set table columns r row set = by (row_read table columns r) set
+  where
+    by : (o : Option (List Cell)) → if_placed table o ≡ Some row → is_placed table row ≡ true
+    by None e = absurd (let h = e in cc)
+    by (Some x) e = placed (is_placed table x) refl e
+      where
+        placed : (b : Bool) → is_placed table x ≡ b → cond b (Some x) None ≡ Some row → is_placed table row ≡ true
+        placed true is e = let same : row ≡ x = cc in ap (is_placed table) same ∙ is
+        placed false is e = absurd (let h = e in cc)

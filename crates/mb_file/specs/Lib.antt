@@ -7,6 +7,7 @@ pub mod KeyOrder
 pub mod Listing
 pub mod Noted
 pub mod Numbers
+pub mod Opening
 pub mod Record
 pub mod RowAt
 pub mod Scan

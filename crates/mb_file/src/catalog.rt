@@ -1,5 +1,6 @@
 // The tables and views of a set that a database lists, by the tree at its first page.
 ghost use Rattle.std.specs.Prelude.{◌≡◌};
+ghost use Rattle.sqlite_pages.specs.Calls.{Continues};
 
 use crate::FileError;
 use crate::cursor::Cursor;
@@ -144,7 +145,10 @@ pub(crate) fn read_catalog<P: Pages>(
     pages: &mut P,
     scratch: &mut Scratch,
     count: usize,
-) -> Result<Catalog, FileError> {
+) -> Result<Catalog, FileError>
+    ensures kept { Continues P.Pages pages.old pages.new }
+    ensures pages { P.Pages.pages pages.new ≡ P.Pages.pages pages.old }
+{
     let mut catalog = Catalog {
         master: Vec::new(alloc),
         tables: Vec::new(alloc),

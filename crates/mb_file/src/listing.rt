@@ -1,9 +1,13 @@
 // A table of a set: its rows in the order of its tree, and by their keys.
-ghost use Rattle.std.specs.Prelude.{◌≡◌, ◌-◌, ◌^◌, ◌≤◌, true, All, IfOk, IfSome, drop, length, min, sum_by, take};
+ghost use Rattle.std.specs.Prelude.{◌≡◌, ℕ, ◌-◌, ◌^◌, ◌<◌, ◌≤◌, None, true, All, IfOk, IfSome, drop, find, length, min, sum_by, take};
 ghost use Rattle.mb_tables.specs.Key.{has_key};
 ghost use Rattle.mb_tables.specs.Table.{width};
 ghost use Rattle.mb_file.specs.FilePages.{GoesOn, pages_of};
-ghost use Rattle.mb_file.specs.Listing.{Lists};
+ghost use Rattle.mb_file.specs.Listing.{AreApart, IsListed, Lists};
+ghost use Rattle.mb_file.specs.SetTable.{set_rows};
+ghost use Rattle.sqlite_btree.specs.Chain.{Layout};
+ghost use Rattle.sqlite_btree.specs.Stored.{IsTable};
+ghost use Rattle.sqlite_pages.specs.PageMap.{PageMap};
 ghost use Rattle.mb_store.specs.Sizes.{row_size};
 
 use crate::FileFault;
@@ -25,7 +29,14 @@ pub(crate) struct Listing {
 }
 
 impl Listing {
-    pub(crate) fn new(alloc: Global, table: TableName, of: SetTable) -> Listing {
+    pub(crate) fn new(alloc: Global, table: TableName, of: SetTable) -> Listing
+        ensures listed { of.columns.key ≡ None → (layout : Layout) (usable secret : ℕ)
+            (pages : PageMap) (rows : _) → IsTable usable layout of.root rows
+            → length (set_rows table of.columns rows) < 2 ^ 64
+            → IsListed layout usable pages secret table rows result }
+        ensures table { result.table ≡ table }
+        ensures of { result.of ≡ of }
+    {
         Listing {
             table,
             scan: Scan::new(alloc, of.is_keyed()),
@@ -98,6 +109,21 @@ impl Listing {
         Ok(self.scan.size)
     }
 
+    // Puts the numbers of its rows in order, once all rows were read.
+    fn put_in_order(&mut self)
+        ensures listed { (layout : Layout) (usable secret : ℕ) (pages : PageMap) (table : _)
+            (rows : _) → self.old.scan.unseen ≡ None
+            → IsListed layout usable pages secret table rows self.old
+            → IsListed layout usable pages secret table rows self.new }
+        ensures sorted { self.new.is_sorted ≡ true }
+        ensures of { self.new.of ≡ self.old.of }
+    {
+        if !self.is_sorted {
+            self.scan.numbered.sort_unstable();
+            self.is_sorted = true;
+        }
+    }
+
     // The first row with a key among those of its number.
     fn look_up<D: Disk>(
         &self,
@@ -106,9 +132,15 @@ impl Listing {
         table: TableName,
         key: &RowKey,
     ) -> Result<Option<Row>, FileFault>
+        ensures finds { Lists source.old.pages source.new.pages source.old.secret table self.now
+            (λ Listed all. self.now.is_sorted ≡ true → AreApart table all
+            → IfOk result (λ row. row ≡ find (has_key table key.now) all)) }
         ensures wide { IfOk result (λ row. IfSome row (λ row. length row ≡ width table)) }
         ensures keyed { IfOk result
             (λ row. IfSome row (λ row. has_key table key.now row ≡ true)) }
+        ensures kept { GoesOn source.old.pages source.new.pages }
+        ensures pages { pages_of source.new.pages ≡ pages_of source.old.pages }
+        ensures secret { source.new.secret ≡ source.old.secret }
     {
         let Some(number) = number_of_key(source.secret, key) else {
             return Ok(None);
@@ -136,15 +168,19 @@ impl Listing {
         table: TableName,
         key: &RowKey,
     ) -> Result<Option<Row>, FileFault>
+        ensures lists { Lists source.old.pages source.new.pages source.old.secret table self.old
+            (λ Listed all. Listed self.new × (AreApart table all
+            → IfOk result (λ row. row ≡ find (has_key table key.now) all))) }
         ensures wide { IfOk result (λ row. IfSome row (λ row. length row ≡ width table)) }
         ensures keyed { IfOk result
             (λ row. IfSome row (λ row. has_key table key.now row ≡ true)) }
+        ensures of { self.new.of ≡ self.old.of }
+        ensures kept { GoesOn source.old.pages source.new.pages }
+        ensures pages { pages_of source.new.pages ≡ pages_of source.old.pages }
+        ensures secret { source.new.secret ≡ source.old.secret }
     {
         self.scan.complete(alloc, source, table, &self.of)?;
-        if !self.is_sorted {
-            self.scan.numbered.sort_unstable();
-            self.is_sorted = true;
-        }
+        self.put_in_order();
         self.look_up(alloc, source, table, key)
     }
 }

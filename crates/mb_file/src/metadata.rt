@@ -2,6 +2,8 @@
 ghost use Rattle.std.specs.Prelude.{◌≡◌, true};
 ghost use Rattle.mb_store.specs.MemStore.{told_of};
 ghost use Rattle.mb_tables.specs.Described.{is_table};
+ghost use Rattle.sqlite_btree.specs.Check.{KeepsMarks};
+ghost use Rattle.mb_file.specs.FilePages.{GoesOn, pages_of};
 
 use crate::FileError;
 use crate::catalog::Listed;
@@ -85,6 +87,9 @@ fn fill<D: Disk>(
 ) -> Result<(), FileError>
     requires described { is_table (told_of names.old).descriptions TableName.Metadata ≡ true }
     ensures described { is_table (told_of names.new).descriptions TableName.Metadata ≡ true }
+    ensures taken { source.new.taken ≡ source.old.taken }
+    ensures kept { GoesOn source.old.pages source.new.pages }
+    ensures pages { pages_of source.new.pages ≡ pages_of source.old.pages }
 {
     let table = TableName::Metadata;
     let mut course = Course::new(alloc, columns.key.is_some());
@@ -99,20 +104,40 @@ fn fill<D: Disk>(
     Err(FileError::Damaged)
 }
 
+// Reads the metadata, where its database lists such a table.
+fn read_names<D: Disk>(
+    alloc: Global,
+    source: &mut Source<D>,
+    names: &mut MemStore,
+    listed: Option<&Listed>,
+) -> Result<(), FileError>
+    requires described { is_table (told_of names.old).descriptions TableName.Metadata ≡ true }
+    ensures marks { KeepsMarks source.old.taken.items source.new.taken.items }
+    ensures kept { GoesOn source.old.pages source.new.pages }
+    ensures pages { pages_of source.new.pages ≡ pages_of source.old.pages }
+{
+    let Some(listed) = listed else {
+        return Ok(());
+    };
+    let columns = columns_by(alloc, TableName::Metadata, listed.text.as_slice())?;
+    test_table(alloc, source, listed.root, columns.key)?;
+    fill(alloc, source, names, listed.root, &columns)
+}
+
 // The metadata of a set, none where its database lists no such table.
 #[tactic(auto, using(crate::proofs::MetadataLemmas::has_names))]
 pub(crate) fn metadata<D: Disk>(
     alloc: Global,
     source: &mut Source<D>,
     listed: Option<&Listed>,
-) -> Result<MemStore, FileError> {
+) -> Result<MemStore, FileError>
+    ensures marks { KeepsMarks source.old.taken.items source.new.taken.items }
+    ensures kept { GoesOn source.old.pages source.new.pages }
+    ensures pages { pages_of source.new.pages ≡ pages_of source.old.pages }
+{
     let Ok(mut names) = MemStore::with_layout(alloc, MbtType::Flat) else {
         return Err(FileError::OutOfMemory);
     };
-    if let Some(listed) = listed {
-        let columns = columns_by(alloc, TableName::Metadata, listed.text.as_slice())?;
-        test_table(alloc, source, listed.root, columns.key)?;
-        fill(alloc, source, &mut names, listed.root, &columns)?;
-    }
+    read_names(alloc, source, &mut names, listed)?;
     Ok(names)
 }

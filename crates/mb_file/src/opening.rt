@@ -1,16 +1,22 @@
 // The parts of a set: its layout, its tables and its metadata, by the catalog.
+ghost use Rattle.std.specs.Prelude.{◌≡◌, IfOk, IfSome};
+ghost use Rattle.sqlite_btree.specs.Check.{KeepsMarks, MarksFree};
+ghost use Rattle.mb_file.specs.FilePages.{GoesOn, IsTrusted, pages_of};
+ghost use Rattle.mb_file.specs.Opening.{AreOpened, IsOpened};
+
 use crate::FileError;
 use crate::catalog::{Catalog, ROOT, read_catalog};
 use crate::checking::{test_table, test_tree};
 use crate::columns::columns_by;
 use crate::listing::Listing;
 use crate::metadata::metadata;
+use crate::pages::FilePages;
 use crate::set_table::SetTable;
 use crate::source::Source;
 use mb_reading::{first_layout, is_there};
 use mb_store::MemStore;
 use mb_tables::{MbtType, TableName};
-use sqlite_disk::Disk;
+use sqlite_disk::{Disk, Files};
 use std::alloc::Global;
 
 // The table of a set that its database lists as one, once it is a sound tree.
@@ -19,7 +25,14 @@ fn listing<D: Disk>(
     source: &mut Source<D>,
     catalog: &Catalog,
     table: TableName,
-) -> Result<Listing, FileError> {
+) -> Result<Listing, FileError>
+    ensures opened { IsTrusted source.new.pages
+        → MarksFree source.old.taken.items (pages_of source.old.pages)
+        → IfOk result (IsOpened source.old.pages.usable (pages_of source.old.pages)) }
+    ensures marks { KeepsMarks source.old.taken.items source.new.taken.items }
+    ensures kept { GoesOn source.old.pages source.new.pages }
+    ensures pages { pages_of source.new.pages ≡ pages_of source.old.pages }
+{
     let Some(listed) = catalog.table(table) else {
         return Err(if table == TableName::Tiles {
             FileError::View
@@ -39,7 +52,15 @@ fn contents<D: Disk>(
     source: &mut Source<D>,
     catalog: &Catalog,
     layout: MbtType,
-) -> Result<Option<Listing>, FileError> {
+) -> Result<Option<Listing>, FileError>
+    ensures opened { IsTrusted source.new.pages
+        → MarksFree source.old.taken.items (pages_of source.old.pages)
+        → IfOk result (λ listing. IfSome listing
+        (IsOpened source.old.pages.usable (pages_of source.old.pages))) }
+    ensures marks { KeepsMarks source.old.taken.items source.new.taken.items }
+    ensures kept { GoesOn source.old.pages source.new.pages }
+    ensures pages { pages_of source.new.pages ≡ pages_of source.old.pages }
+{
     match layout.normalized_schema() {
         Some(schema) => Ok(Some(listing(alloc, source, catalog, schema.contents())?)),
         None => Ok(None),
@@ -62,7 +83,14 @@ fn tables<D: Disk>(
     catalog: &Catalog,
     layout: MbtType,
     names: MemStore,
-) -> Result<Parts, FileError> {
+) -> Result<Parts, FileError>
+    ensures opened { IsTrusted source.new.pages
+        → MarksFree source.old.taken.items (pages_of source.old.pages)
+        → IfOk result (AreOpened source.old.pages.usable (pages_of source.old.pages)) }
+    ensures marks { KeepsMarks source.old.taken.items source.new.taken.items }
+    ensures kept { GoesOn source.old.pages source.new.pages }
+    ensures pages { pages_of source.new.pages ≡ pages_of source.old.pages }
+{
     let contents = contents(alloc, source, catalog, layout)?;
     let tiles = listing(alloc, source, catalog, layout.tile_table())?;
     Ok(Parts {
@@ -78,7 +106,11 @@ fn names<D: Disk>(
     alloc: Global,
     source: &mut Source<D>,
     catalog: &Catalog,
-) -> Result<MemStore, FileError> {
+) -> Result<MemStore, FileError>
+    ensures marks { KeepsMarks source.old.taken.items source.new.taken.items }
+    ensures kept { GoesOn source.old.pages source.new.pages }
+    ensures pages { pages_of source.new.pages ≡ pages_of source.old.pages }
+{
     let table = TableName::Metadata;
     let listed = catalog.table(table);
     if listed.is_none() && is_there(catalog.master.as_slice(), table) {
@@ -92,7 +124,14 @@ fn listed_parts<D: Disk>(
     alloc: Global,
     source: &mut Source<D>,
     catalog: &Catalog,
-) -> Result<Parts, FileError> {
+) -> Result<Parts, FileError>
+    ensures opened { IsTrusted source.new.pages
+        → MarksFree source.old.taken.items (pages_of source.old.pages)
+        → IfOk result (AreOpened source.old.pages.usable (pages_of source.old.pages)) }
+    ensures marks { KeepsMarks source.old.taken.items source.new.taken.items }
+    ensures kept { GoesOn source.old.pages source.new.pages }
+    ensures pages { pages_of source.new.pages ≡ pages_of source.old.pages }
+{
     let Some(layout) = first_layout(alloc, catalog.master.as_slice())? else {
         return Err(FileError::NotASet);
     };
@@ -101,12 +140,34 @@ fn listed_parts<D: Disk>(
 }
 
 // The parts of the set that pages have.
-pub(crate) fn read_parts<D: Disk>(
-    alloc: Global,
-    source: &mut Source<D>,
-) -> Result<Parts, FileError> {
+pub(crate) fn read_parts<D: Disk>(alloc: Global, source: &mut Source<D>) -> Result<Parts, FileError>
+    ensures opened { IsTrusted source.new.pages
+        → MarksFree source.old.taken.items (pages_of source.old.pages)
+        → IfOk result (AreOpened source.old.pages.usable (pages_of source.old.pages)) }
+    ensures marks { KeepsMarks source.old.taken.items source.new.taken.items }
+    ensures kept { GoesOn source.old.pages source.new.pages }
+    ensures pages { pages_of source.new.pages ≡ pages_of source.old.pages }
+{
     test_tree(alloc, source, ROOT)?;
     let pages = source.taken.len().saturating_sub(1);
     let catalog = read_catalog(alloc, &mut source.pages, &mut source.scratch, pages)?;
     listed_parts(alloc, source, &catalog)
+}
+
+// Opens the pages of a file and its log, and reads the parts of its set.
+pub(crate) fn open_parts<D: Disk + Drop>(
+    alloc: Global,
+    files: Files<D>,
+    cache_pages: usize,
+) -> Result<(Source<D>, Parts), FileError>
+    ensures opened { IfOk result (λ read. IsTrusted read.0.pages
+        → AreOpened read.0.pages.usable (pages_of read.0.pages) read.1) }
+{
+    let secret = files.log.key();
+    let pages = FilePages::open(alloc, files, cache_pages)?;
+    let mut source = Source::new(alloc, pages, secret)?;
+    match read_parts(alloc, &mut source) {
+        Ok(parts) => Ok((source, parts)),
+        Err(error) => Err(error),
+    }
 }

@@ -46,6 +46,7 @@ impl Scan {
             self.old
             (λ Stands all. IfOk result (λ found. Stands self.new
             × Reaches all to self.new.position found)) }
+        ensures still { self.old.unseen ≡ None → IsNotedAs self.old self.new }
         ensures notes { KeepsNotes source.old.pages source.new.pages of.now.root source.old.secret
             table of.now.columns self.old self.new }
         ensures secret { source.new.secret ≡ source.old.secret }
@@ -77,6 +78,7 @@ impl Scan {
             × (rows.items ≡ take limit (drop self.old.position all)))) }
         ensures widths { IfOk result (λ rows. All (λ row. length row ≡ width table) rows.items) }
         ensures limit { IfOk result (λ rows. length rows.items ≤ limit) }
+        ensures still { self.old.unseen ≡ None → IsNotedAs self.old self.new }
         ensures notes { KeepsNotes source.old.pages source.new.pages of.now.root source.old.secret
             table of.now.columns self.old self.new }
         ensures secret { source.new.secret ≡ source.old.secret }
@@ -113,6 +115,7 @@ impl Scan {
             × (rows.items ≡ take limit (drop from all)))) }
         ensures widths { IfOk result (λ rows. All (λ row. length row ≡ width table) rows.items) }
         ensures limit { IfOk result (λ rows. length rows.items ≤ limit) }
+        ensures still { self.old.unseen ≡ None → IsNotedAs self.old self.new }
         ensures notes { KeepsNotes source.old.pages source.new.pages of.now.root source.old.secret
             table of.now.columns self.old self.new }
         ensures secret { source.new.secret ≡ source.old.secret }
@@ -142,6 +145,7 @@ impl Scan {
             × IfOk result (λ rows. rows.items ≡ take limit (drop from all))) }
         ensures widths { IfOk result (λ rows. All (λ row. length row ≡ width table) rows.items) }
         ensures limit { IfOk result (λ rows. length rows.items ≤ limit) }
+        ensures still { self.old.unseen ≡ None → IsNotedAs self.old self.new }
         ensures notes { KeepsNotes source.old.pages source.new.pages of.now.root source.old.secret
             table of.now.columns self.old self.new }
         ensures secret { source.new.secret ≡ source.old.secret }
@@ -168,6 +172,7 @@ impl Scan {
             self.old
             (λ Stands all. OnOk result (Stands self.new)) }
         ensures whole { OnOk result (self.new.unseen ≡ None) }
+        ensures still { self.old.unseen ≡ None → IsNotedAs self.old self.new }
         ensures notes { KeepsNotes source.old.pages source.new.pages of.now.root source.old.secret
             table of.now.columns self.old self.new }
         ensures secret { source.new.secret ≡ source.old.secret }
@@ -198,6 +203,7 @@ impl Scan {
             self.old
             (λ Stands all. Stands self.new) }
         ensures whole { OnOk result (self.new.unseen ≡ None) }
+        ensures still { self.old.unseen ≡ None → IsNotedAs self.old self.new }
         ensures notes { KeepsNotes source.old.pages source.new.pages of.now.root source.old.secret
             table of.now.columns self.old self.new }
         ensures secret { source.new.secret ≡ source.old.secret }

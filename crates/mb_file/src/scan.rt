@@ -235,6 +235,7 @@ impl Scan {
             × Goes all self.old.position self.new.position row)) }
         ensures notes { KeepsNotes source.old.pages source.new.pages of.now.root source.old.secret
             table of.now.columns self.old self.new }
+        ensures still { self.old.unseen ≡ None → IsNotedAs self.old self.new }
         ensures whole { IfOk result (λ row. IfNone row (self.new.unseen ≡ None)) }
         ensures wide { IfOk result (λ row. IfSome row (λ row. length row ≡ width table)) }
         ensures secret { source.new.secret ≡ source.old.secret }

@@ -80,6 +80,7 @@ impl SetTable {
         ensures read { ReadsRecord ⟦<FilePages<D> as Pages>⟧ source.old.pages source.new.pages
             self.now.root rowid source.new.record.items result }
         ensures kept { Continues ⟦<FilePages<D> as Pages>⟧ source.old.pages source.new.pages }
+        ensures secret { source.new.secret ≡ source.old.secret }
         ensures pages { pages_of source.new.pages ≡ pages_of source.old.pages }
     {
         let is_there = table::get(
@@ -102,6 +103,7 @@ impl SetTable {
             → ReadsRecord ⟦<FilePages<D> as Pages>⟧ source.old.pages source.new.pages
             self.now.root place source.new.record.items result }
         ensures kept { Continues ⟦<FilePages<D> as Pages>⟧ source.old.pages source.new.pages }
+        ensures secret { source.new.secret ≡ source.old.secret }
         ensures pages { pages_of source.new.pages ≡ pages_of source.old.pages }
     {
         if self.is_keyed() {
@@ -124,6 +126,7 @@ impl SetTable {
             self.now.root table self.now.columns place result }
         ensures wide { IfOk result (λ row. length row ≡ width table) }
         ensures kept { Continues ⟦<FilePages<D> as Pages>⟧ source.old.pages source.new.pages }
+        ensures secret { source.new.secret ≡ source.old.secret }
         ensures pages { pages_of source.new.pages ≡ pages_of source.old.pages }
     {
         self.read_record(source, place)?;

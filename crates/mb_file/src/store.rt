@@ -7,8 +7,7 @@ ghost use Rattle.mb_tables.specs.Table.{width};
 
 use crate::fault::Faults;
 use crate::listing::Listing;
-use crate::opening::{Parts, read_parts};
-use crate::pages::FilePages;
+use crate::opening::{Parts, open_parts};
 use crate::source::Source;
 use crate::{FileError, FileFault};
 use mb_reading::LeftOut;
@@ -48,13 +47,8 @@ impl<D: Disk + Drop> FileSet<D> {
         files: Files<D>,
         cache_pages: usize,
     ) -> Result<FileSet<D>, FileError> {
-        let secret = files.log.key();
-        let pages = FilePages::open(alloc, files, cache_pages)?;
-        let mut source = Source::new(alloc, pages, secret)?;
-        match read_parts(alloc, &mut source) {
-            Ok(parts) => Ok(FileSet::of_parts(alloc, source, parts)),
-            Err(error) => Err(error),
-        }
+        let (source, parts) = open_parts(alloc, files, cache_pages)?;
+        Ok(FileSet::of_parts(alloc, source, parts))
     }
 }
 

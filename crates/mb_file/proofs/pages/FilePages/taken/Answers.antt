@@ -1,4 +1,4 @@
-use Rattle.std.proofs.Common.{arith, rules}
+use Rattle.std.proofs.Common.{arith}
 use Rattle.sqlite_pager.proofs.PagerLemmas.{visible_counted}
 use Rattle.sqlite_pool.specs.StoredLaws.{trimmed_counted}
 use Rattle.mb_file.proofs.MarkLemmas.{without_flag}

@@ -4,6 +4,7 @@ use Rattle.std.proofs.lemmas.List.Elements.{All-push}
 use Rattle.mb_tables.specs.Table.{width}
 use Rattle.mb_tables.specs.declared.cell.Cell.{Cell}
 use Rattle.mb_file.specs.Scan.{Goes}
+use Rattle.mb_file.proofs.NotedLemmas.{still_after}
 use Rattle.mb_file.proofs.ScanLemmas.{all_gathered, ends_gathered, notes_then, scans_then}
 use Rattle.mb_file.proofs.scan.Scan.gather.Goals as goal
 
@@ -18,6 +19,7 @@ rows-preserved g c =
       count = omega (arith, long, c.rows.invariant.count);
       kind = search rules;
       secret = search rules;
+      still = still_after c.args.self.now c.rows.self c.next_row.new.self c.rows.invariant.still c.next_row.ensures.still;
       notes =
           notes_then c.args.source.now.pages c.rows.source.pages c.next_row.new.source.pages c.args.of.now.root c.args.table c.args.of.now.columns c.rows.invariant.kept c.rows.invariant.pages
           c.args.source.now.secret c.rows.source.secret c.rows.invariant.secret c.args.self.now c.rows.self c.next_row.new.self (λ all. drop c.args.self.now.position all ≡ c.rows.rows.items ++ drop c.rows.self.position all) c.next_row.ensures.kept c.rows.invariant.stands c.rows.invariant.notes c.next_row.ensures.notes;
@@ -64,3 +66,15 @@ pub returns-in_err-push-clause-notes : goal.returns-in_err-push-clause-notes
 returns-in_err-push-clause-notes g c =
     notes_then c.args.source.now.pages c.rows.source.pages c.next_row.new.source.pages c.args.of.now.root c.args.table c.args.of.now.columns c.rows.invariant.kept c.rows.invariant.pages
     c.args.source.now.secret c.rows.source.secret c.rows.invariant.secret c.args.self.now c.rows.self c.next_row.new.self (λ all. drop c.args.self.now.position all ≡ c.rows.rows.items ++ drop c.rows.self.position all) c.next_row.ensures.kept c.rows.invariant.stands c.rows.invariant.notes c.next_row.ensures.notes
+
+pub returns-in_err-row-clause-still : goal.returns-in_err-row-clause-still
+returns-in_err-row-clause-still g c =
+    still_after c.args.self.now c.rows.self c.next_row.new.self c.rows.invariant.still c.next_row.ensures.still
+
+pub returns-in_default-clause-still : goal.returns-in_default-clause-still
+returns-in_default-clause-still g c =
+    still_after c.args.self.now c.rows.self c.next_row.new.self c.rows.invariant.still c.next_row.ensures.still
+
+pub returns-in_err-push-clause-still : goal.returns-in_err-push-clause-still
+returns-in_err-push-clause-still g c =
+    still_after c.args.self.now c.rows.self c.next_row.new.self c.rows.invariant.still c.next_row.ensures.still

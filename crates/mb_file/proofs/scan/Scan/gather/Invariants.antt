@@ -1,9 +1,9 @@
-use Rattle.std.proofs.Common.{drop, length, ◌++◌, ◌≡◌, ◌≤◌}
+use Rattle.std.proofs.Common.{drop, length, None, ◌++◌, ◌≡◌, ◌≤◌}
 use Rattle.std.specs.Prelude.{All}
 use Rattle.mb_tables.specs.Table.{width}
 use Rattle.mb_file.specs.Course.{has_key}
 use Rattle.mb_file.specs.FilePages.{GoesOn, pages_of}
-use Rattle.mb_file.specs.Noted.{KeepsNotes}
+use Rattle.mb_file.specs.Noted.{IsNotedAs, KeepsNotes}
 use Rattle.mb_file.specs.Scan.{Scans}
 use Rattle.mb_file.proofs.scan.Scan.gather.Given as goal
 
@@ -18,5 +18,6 @@ invariant-rows g l = record {
   kept : GoesOn l.fn.source.pages l.source.pages;
   stands : Scans l.fn.source.pages l.source.pages l.of.root l.table l.of.columns l.fn.self (λ Stands all. Stands l.self
       × (drop l.fn.self.position all ≡ l.rows.items ++ drop l.self.position all));
+  still : l.fn.self.unseen ≡ None → IsNotedAs l.fn.self l.self;
   notes : KeepsNotes l.fn.source.pages l.source.pages l.of.root l.fn.source.secret l.table l.of.columns l.fn.self l.self;
 }

@@ -1,10 +1,11 @@
-use Rattle.std.proofs.Common.{ap, List, Option, refl, rules, subst, sym, ℕ, ◌∙◌, ◌≡◌}
+use Rattle.std.proofs.Common.{ap, List, Option, refl, rules, subst, sym, ℕ, ◌∙◌, ◌≡◌, ℤ}
 use Rattle.mb_tables.specs.declared.cell.Cell.{Cell}
 use Rattle.mb_file.specs.Course.{row_in}
 use Rattle.mb_file.specs.FilePages.{GoesOn, IsTrusted}
 use Rattle.mb_file.specs.Noted.{Notes}
-use Rattle.mb_file.specs.Scan.{behind}
+use Rattle.mb_file.specs.Scan.{behind, is_unseen}
 use Rattle.mb_file.specs.SetTable.{set_row}
+use Rattle.mb_file.proofs.NotedLemmas.{still_after, still_ended}
 use Rattle.mb_file.proofs.ScanLemmas.{ends_scan, leaves_row, notes_all, notes_row, notes_same, Steps, takes_row}
 use Rattle.mb_file.specs.declared.scan.Scan.{Scan}
 use Rattle.mb_file.proofs.scan.Scan.next_row.Goals as goal
@@ -78,6 +79,9 @@ rows-preserved g c =
     record {
       kind = search rules;
       secret = search rules;
+      still = still_after c.args.self.now c.rows.self c.take.new.self c.rows.invariant.still (λ ended.
+          let same = c.take.ensures.same (ap (λ (o : Option ℤ). is_unseen o (row_in c.advance.new.self).0) ended) in
+          record { numbers = same.numbers; count = same.count; size = same.size; unseen = same.unseen });
       pages = search rules;
       kept = search rules;
       stands = leaves_row c.args.source.now.pages c.rows.source.pages c.take.new.source.pages c.args.of.now.root c.args.table c.args.of.now.columns c.rows.invariant.kept c.rows.invariant.pages
@@ -92,3 +96,31 @@ rows-preserved g c =
           subst (λ (secret : ℕ). Notes secret (row_in c.advance.new.self).0 (set_row c.args.table c.args.of.now.columns (row_in c.advance.new.self)) c.rows.self c.take.new.self) c.rows.invariant.secret own)
           (λ seen. let same = c.take.ensures.same seen in record { numbers = same.numbers; count = same.count; size = same.size; unseen = same.unseen });
     }
+
+pub returns-in_err-advance-clause-still : goal.returns-in_err-advance-clause-still
+returns-in_err-advance-clause-still g c =
+    still_after c.args.self.now c.rows.self (record c.rows.self { course = c.advance.new.self }) c.rows.invariant.still (λ ended. record { numbers = refl; count = refl; size = refl; unseen = refl })
+
+pub returns-in_err-end-clause-still : goal.returns-in_err-end-clause-still
+returns-in_err-end-clause-still g c =
+    still_after c.args.self.now c.rows.self c.end.new.self c.rows.invariant.still (λ ended.
+    let same = c.in_err-end.ensures.failed in
+    record { numbers = ap (λ (s : Scan). s.numbered.items) same; count = ap (λ (s : Scan). s.count) same; size = ap (λ (s : Scan). s.size) same; unseen = ap (λ (s : Scan). s.unseen) same })
+
+pub returns-then-not-branch-clause-still : goal.returns-then-not-branch-clause-still
+returns-then-not-branch-clause-still g c =
+    still_after c.args.self.now c.rows.self c.end.new.self c.rows.invariant.still
+    (let same = c.in_ok-end.ensures.ended in
+    still_ended c.rows.self c.end.new.self (ap (λ (s : Scan). s.numbered.items) same) (ap (λ (s : Scan). s.count) same) (ap (λ (s : Scan). s.size) same) (ap (λ (s : Scan). s.unseen) same))
+
+pub returns-in_err-row-clause-still : goal.returns-in_err-row-clause-still
+returns-in_err-row-clause-still g c =
+    still_after c.args.self.now c.rows.self c.take.new.self c.rows.invariant.still (λ ended.
+    let same = c.in_err-row.ensures.failed in
+    record { numbers = same.numbers; count = same.count; size = same.size; unseen = same.unseen })
+
+pub returns-in-Some-clause-still : goal.returns-in-Some-clause-still
+returns-in-Some-clause-still g c =
+    still_after c.args.self.now c.rows.self c.take.new.self c.rows.invariant.still (λ ended.
+    let same = c.take.ensures.same (ap (λ (o : Option ℤ). is_unseen o (row_in c.advance.new.self).0) ended) in
+    record { numbers = same.numbers; count = same.count; size = same.size; unseen = same.unseen })

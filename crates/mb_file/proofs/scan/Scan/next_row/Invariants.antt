@@ -1,7 +1,7 @@
-use Rattle.std.proofs.Common.{◌≡◌}
+use Rattle.std.proofs.Common.{None, ◌≡◌}
 use Rattle.mb_file.specs.Course.{has_key}
 use Rattle.mb_file.specs.FilePages.{GoesOn, pages_of}
-use Rattle.mb_file.specs.Noted.{KeepsNotes}
+use Rattle.mb_file.specs.Noted.{IsNotedAs, KeepsNotes}
 use Rattle.mb_file.specs.Scan.{Scans}
 use Rattle.mb_file.proofs.scan.Scan.next_row.Given as goal
 
@@ -12,5 +12,6 @@ invariant-rows g l = record {
   pages : pages_of l.source.pages ≡ pages_of l.fn.source.pages;
   kept : GoesOn l.fn.source.pages l.source.pages;
   stands : Scans l.fn.source.pages l.source.pages l.of.root l.table l.of.columns l.fn.self (λ Stands all. Stands l.self × (l.self.position ≡ l.fn.self.position));
+  still : l.fn.self.unseen ≡ None → IsNotedAs l.fn.self l.self;
   notes : KeepsNotes l.fn.source.pages l.source.pages l.of.root l.fn.source.secret l.table l.of.columns l.fn.self l.self;
 }

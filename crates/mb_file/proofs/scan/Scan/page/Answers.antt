@@ -1,5 +1,5 @@
 use Rattle.std.proofs.Common.{rules, ◌∙◌}
-use Rattle.mb_file.proofs.NotedLemmas.{as_noted}
+use Rattle.mb_file.proofs.NotedLemmas.{as_noted, noted_trans}
 use Rattle.mb_file.proofs.ScanLemmas.{of_done, of_failed, restarted, rowids_of}
 use Rattle.mb_file.proofs.scan.Scan.page.Goals as goal
 
@@ -16,3 +16,7 @@ returns-else-is_err-clause-stands g c = λ trusted layout rows laid stored scan.
 pub returns-then-is_err-clause-notes : goal.returns-then-is_err-clause-notes
 returns-then-is_err-clause-notes g c = λ trusted layout rows laid stored scan notes.
     as_noted c.args.source.now.secret c.args.table c.args.of.now.columns rows _ c.restart.new.self (restarted _ _ c.restart.ensures.same) (c.rows-answer.ensures.notes trusted layout rows laid stored scan notes)
+
+pub returns-then-is_err-clause-still : goal.returns-then-is_err-clause-still
+returns-then-is_err-clause-still g c =
+    λ ended. noted_trans _ _ _ (c.rows-answer.ensures.still ended) (restarted _ _ c.restart.ensures.same)

@@ -1,6 +1,6 @@
 use Rattle.std.proofs.Common.{ap, arith, drop, rules, [], ◌+◌, ◌∙◌, ◌≡◌}
 use Rattle.mb_file.specs.Scan.{Goes}
-use Rattle.mb_file.proofs.NotedLemmas.{as_noted}
+use Rattle.mb_file.proofs.NotedLemmas.{as_noted, still_after}
 use Rattle.mb_file.proofs.ScanLemmas.{goes_none, goes_some, none_from, notes_then, scans_then}
 use Rattle.mb_file.proofs.scan.Scan.pass.Goals as goal
 
@@ -8,6 +8,7 @@ pub loop-init : goal.loop-init
 loop-init g c = record {
   kind = search rules;
   secret = search rules;
+  still = λ ended. c.go_back.ensures.same;
   pages = search rules;
   kept = search rules;
   stands = λ trusted layout rows laid stored scan. (c.go_back.ensures.stands layout _ _ _ _ _ rows stored scan, search rules);
@@ -25,6 +26,7 @@ pub loop-preserved : goal.loop-preserved
 loop-preserved g c = record {
   kind = search rules;
   secret = search rules;
+  still = still_after c.args.self.now c.loop.self c.next_row.new.self c.loop.invariant.still c.next_row.ensures.still;
   pages = search rules;
   kept = search rules;
   stands =
@@ -51,3 +53,11 @@ pub returns-then-is_none-clause-notes : goal.returns-then-is_none-clause-notes
 returns-then-is_none-clause-notes g c =
     notes_then c.args.source.now.pages c.loop.source.pages c.next_row.new.source.pages c.args.of.now.root c.args.table c.args.of.now.columns c.loop.invariant.kept c.loop.invariant.pages
     c.args.source.now.secret c.loop.source.secret c.loop.invariant.secret c.args.self.now c.loop.self c.next_row.new.self (λ all. c.loop.self.position ≡ c.loop.counter) c.next_row.ensures.kept c.loop.invariant.stands c.loop.invariant.notes c.next_row.ensures.notes
+
+pub returns-in_err-next_row-clause-still : goal.returns-in_err-next_row-clause-still
+returns-in_err-next_row-clause-still g c =
+    still_after c.args.self.now c.loop.self c.next_row.new.self c.loop.invariant.still c.next_row.ensures.still
+
+pub returns-then-is_none-clause-still : goal.returns-then-is_none-clause-still
+returns-then-is_none-clause-still g c =
+    still_after c.args.self.now c.loop.self c.next_row.new.self c.loop.invariant.still c.next_row.ensures.still

@@ -3,6 +3,7 @@ use Rattle.std.specs.Prelude.{⊤}
 use Rattle.std.proofs.lemmas.List.{take_all}
 use Rattle.mb_file.specs.Scan.{Reaches}
 use Rattle.mb_file.specs.SetTable.{set_rows}
+use Rattle.mb_file.proofs.NotedLemmas.{still_after}
 use Rattle.mb_file.proofs.ScanLemmas.{notes_then, scans_then}
 use Rattle.mb_file.proofs.scan.Scan.rows.Goals as goal
 
@@ -29,3 +30,7 @@ returns-clause-notes g c =
     notes_then c.args.source.now.pages c.pass.new.source.pages c.gather.new.source.pages c.args.of.now.root c.args.table c.args.of.now.columns c.pass.ensures.kept c.pass.ensures.pages
     c.args.source.now.secret c.pass.new.source.secret c.pass.ensures.secret c.args.self.now c.pass.new.self c.gather.new.self (λ all. ⊤) c.gather.ensures.kept
     (λ trusted layout rows laid stored scan. ((c.in_ok-pass.ensures.stands trusted layout rows laid stored scan).0, tt)) c.pass.ensures.notes c.gather.ensures.notes
+
+pub returns-clause-still : goal.returns-clause-still
+returns-clause-still g c =
+    still_after c.args.self.now c.pass.new.self c.gather.new.self c.pass.ensures.still c.gather.ensures.still

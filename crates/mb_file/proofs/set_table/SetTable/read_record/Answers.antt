@@ -1,4 +1,4 @@
-use Rattle.std.proofs.Common.{false, is_some, None, true, w64, ◌≡◌}
+use Rattle.std.proofs.Common.{w64}
 use Rattle.std.proofs.lemmas.Int.{to_z-of_z}
 use Rattle.mb_file.proofs.set_table.SetTable.read_record.Goals as goal
 
