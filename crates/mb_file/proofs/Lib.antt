@@ -13,4 +13,5 @@ mod RecordLemmas
 mod RowLemmas
 mod ScanLemmas
 mod SearchLemmas
+mod StandingLemmas
 mod UnseenLemmas

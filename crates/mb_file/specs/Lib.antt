@@ -13,3 +13,4 @@ pub mod RowAt
 pub mod Scan
 pub mod SetTable
 pub mod Source
+pub mod Standing

@@ -45,7 +45,9 @@ impl Listing {
         }
     }
 
-    pub(crate) fn is_of(&self, table: TableName) -> bool {
+    pub(crate) fn is_of(&self, table: TableName) -> bool
+        ensures { result ≡ true → self.now.table ≡ table }
+    {
         self.table == table
     }
 
@@ -117,6 +119,7 @@ impl Listing {
             → IsListed layout usable pages secret table rows self.new }
         ensures sorted { self.new.is_sorted ≡ true }
         ensures of { self.new.of ≡ self.old.of }
+        ensures table { self.new.table ≡ self.old.table }
     {
         if !self.is_sorted {
             self.scan.numbered.sort_unstable();
@@ -175,6 +178,7 @@ impl Listing {
         ensures keyed { IfOk result
             (λ row. IfSome row (λ row. has_key table key.now row ≡ true)) }
         ensures of { self.new.of ≡ self.old.of }
+        ensures table { self.new.table ≡ self.old.table }
         ensures kept { GoesOn source.old.pages source.new.pages }
         ensures pages { pages_of source.new.pages ≡ pages_of source.old.pages }
         ensures secret { source.new.secret ≡ source.old.secret }

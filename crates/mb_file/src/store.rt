@@ -4,6 +4,7 @@ ghost use Rattle.mb_store.specs.Kept.{FaultsCounted};
 ghost use Rattle.mb_tables.specs.Key.{has_key};
 ghost use Rattle.mb_tables.specs.Schema.{set_tables};
 ghost use Rattle.mb_tables.specs.Table.{width};
+ghost use Rattle.mb_file.specs.Standing.{AllStand};
 
 use crate::fault::Faults;
 use crate::listing::Listing;
@@ -31,6 +32,7 @@ pub struct FileSet<D: Disk> {
     tiles: Listing,
     contents: Option<Listing>,
     faults: Faults,
+    ghost stands: { ∥ AllStand source tiles contents ∥₁ },
 }
 
 impl<D: Disk + Drop> FileSet<D> {
@@ -54,7 +56,9 @@ impl<D: Disk + Drop> FileSet<D> {
 
 impl<D: Disk> FileSet<D> {
     // The set of its parts.
-    fn of_parts(alloc: Global, source: Source<D>, parts: Parts) -> FileSet<D> {
+    fn of_parts(alloc: Global, source: Source<D>, parts: Parts) -> FileSet<D>
+        requires { AllStand source parts.tiles parts.contents }
+    {
         let Parts {
             layout,
             tiles,

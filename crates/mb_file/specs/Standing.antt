@@ -1,0 +1,38 @@
+-- The tables of a set that stands: stored in pages as trees, whose rows are those that any pages read as.
+use Rattle.std.specs.Prelude.{◌≡◌, ℕ, ◌^◌, ◌<◌, List, map, None, IfSome, Option, length}
+use Rattle.sqlite_btree.specs.Chain.{Layout}
+use Rattle.sqlite_btree.specs.Stored.{as_row, entries_at, IsLaidIn, IsTable}
+use Rattle.sqlite_disk.specs.declared.Disk.{Ghosts}
+use Rattle.sqlite_format.specs.declared.kind.Tree.TheVariants.{Table}
+use Rattle.sqlite_pages.specs.PageMap.{PageMap}
+use Rattle.mb_tables.specs.declared.cell.Cell.{Cell}
+use Rattle.mb_file.specs.Cursor.{Stored}
+use Rattle.mb_file.specs.FilePages.{IsTrusted, pages_of}
+use Rattle.mb_file.specs.Listing.{IsListed}
+use Rattle.mb_file.specs.SetTable.{set_rows}
+use Rattle.mb_file.specs.declared.listing.Listing.{Listing}
+use Rattle.mb_file.specs.declared.source.Source.{Source}
+
+-- the rows that any pages read as under a root
+abbrev pub rows_at : ℕ → PageMap → ℕ → List Stored
+rows_at usable pages root = map as_row (entries_at Table usable pages root)
+
+-- the rows of the set that a table shows
+abbrev pub shown : ℕ → PageMap → Listing → List (List Cell)
+shown usable pages listing = set_rows listing.table listing.of.columns (rows_at usable pages listing.of.root)
+
+pub record IsStanding (usable : ℕ) (pages : PageMap) (secret : ℕ) (listing : Listing) : Type 0 where
+  pub layout : Layout
+  pub laid : IsLaidIn layout pages
+  pub stored : IsTable usable layout listing.of.root (rows_at usable pages listing.of.root)
+  pub listed : IsListed layout usable pages secret listing.table (rows_at usable pages listing.of.root) listing
+
+-- of a table with rowids, whose rows are fewer than a count can be
+abbrev pub Stands : {D : Type 0} {g : Ghosts D} → Source D g → Listing → Type 0
+Stands source listing =
+    IsTrusted source.pages → listing.of.columns.key ≡ None → length (shown source.pages.usable (pages_of source.pages) listing) < 2 ^ 64
+    → IsStanding source.pages.usable (pages_of source.pages) source.secret listing
+
+pub record AllStand {D : Type 0} {g : Ghosts D} (source : Source D g) (tiles : Listing) (contents : Option Listing) : Type 0 where
+  pub of_tiles : Stands source tiles
+  pub of_contents : IfSome contents (Stands source)
