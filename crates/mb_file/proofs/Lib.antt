@@ -14,4 +14,5 @@ mod RowLemmas
 mod ScanLemmas
 mod SearchLemmas
 mod StandingLemmas
+mod ToldLemmas
 mod UnseenLemmas

@@ -1,11 +1,16 @@
 -- The tables of a set that stands: stored in pages as trees, whose rows are those that any pages read as.
-use Rattle.std.specs.Prelude.{◌≡◌, ℕ, ◌^◌, ◌<◌, List, map, None, IfSome, Option, length}
+use Rattle.std.specs.Prelude.{◌≡◌, ℕ, ◌^◌, ◌<◌, cond, List, [], map, None, Some, IfSome, Option, length}
 use Rattle.sqlite_btree.specs.Chain.{Layout}
 use Rattle.sqlite_btree.specs.Stored.{as_row, entries_at, IsLaidIn, IsTable}
 use Rattle.sqlite_disk.specs.declared.Disk.{Ghosts}
 use Rattle.sqlite_format.specs.declared.kind.Tree.TheVariants.{Table}
 use Rattle.sqlite_pages.specs.PageMap.{PageMap}
+use Rattle.mb_store.specs.MemStore.{told_of}
+use Rattle.mb_store.specs.declared.mem_store.MemStore.{MemStore}
+use Rattle.mb_tables.specs.Table.{table_eq}
 use Rattle.mb_tables.specs.declared.cell.Cell.{Cell}
+use Rattle.mb_tables.specs.declared.table.TableName.{TableName}
+use Rattle.mb_tables.specs.declared.table.TableName.TheVariants.{Metadata}
 use Rattle.mb_file.specs.Cursor.{Stored}
 use Rattle.mb_file.specs.FilePages.{IsTrusted, pages_of}
 use Rattle.mb_file.specs.Listing.{IsListed}
@@ -36,3 +41,19 @@ Stands source listing =
 pub record AllStand {D : Type 0} {g : Ghosts D} (source : Source D g) (tiles : Listing) (contents : Option Listing) : Type 0 where
   pub of_tiles : Stands source tiles
   pub of_contents : IfSome contents (Stands source)
+
+-- a table of which rows are told: with rowids, and with fewer rows than a count can be
+pub record IsShown {D : Type 0} {g : Ghosts D} (source : Source D g) (listing : Listing) : Type 0 where
+  pub rowids : listing.of.columns.key ≡ None
+  pub few : length (shown source.pages.usable (pages_of source.pages) listing) < 2 ^ 64
+
+-- the rows of a table, where the contents are in it
+abbrev pub contents_told : {D : Type 0} {g : Ghosts D} → Source D g → Option Listing → TableName → List (List Cell)
+contents_told source None table = []
+contents_told source (Some listing) table = cond (table_eq listing.table table) (shown source.pages.usable (pages_of source.pages) listing) []
+
+-- the rows of a table of a set
+abbrev pub rows_told : {D : Type 0} {g : Ghosts D} → Source D g → MemStore → Listing → Option Listing → TableName → List (List Cell)
+rows_told source names tiles contents table =
+    cond (table_eq table Metadata) ((told_of names).rows Metadata)
+    (cond (table_eq tiles.table table) (shown source.pages.usable (pages_of source.pages) tiles) (contents_told source contents table))

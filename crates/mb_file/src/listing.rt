@@ -1,7 +1,7 @@
 // A table of a set: its rows in the order of its tree, and by their keys.
 ghost use Rattle.std.specs.Prelude.{◌≡◌, ℕ, ◌-◌, ◌^◌, ◌<◌, ◌≤◌, None, true, All, IfOk, IfSome, drop, find, length, min, sum_by, take};
 ghost use Rattle.mb_tables.specs.Key.{has_key};
-ghost use Rattle.mb_tables.specs.Table.{width};
+ghost use Rattle.mb_tables.specs.Table.{table_eq, width};
 ghost use Rattle.mb_file.specs.FilePages.{GoesOn, pages_of};
 ghost use Rattle.mb_file.specs.Listing.{AreApart, IsListed, Lists};
 ghost use Rattle.mb_file.specs.SetTable.{set_rows};
@@ -46,7 +46,8 @@ impl Listing {
     }
 
     pub(crate) fn is_of(&self, table: TableName) -> bool
-        ensures { result ≡ true → self.now.table ≡ table }
+        ensures same { result ≡ table_eq self.now.table table }
+        ensures is { result ≡ true → self.now.table ≡ table }
     {
         self.table == table
     }

@@ -1,10 +1,12 @@
 // A set of a file as a store.
-ghost use Rattle.std.specs.Prelude.{◌≡◌, ◌≤◌, [], false, true, All, Err, IfOk, IfSome, IsErrOf, length};
+ghost use Rattle.std.specs.Prelude.{◌≡◌, ◌≤◌, [], false, true, All, Err, IfOk, IfSome, IsErrOf, drop, find, length, take};
 ghost use Rattle.mb_store.specs.Kept.{FaultsCounted};
 ghost use Rattle.mb_tables.specs.Key.{has_key};
 ghost use Rattle.mb_tables.specs.Schema.{set_tables};
 ghost use Rattle.mb_tables.specs.Table.{width};
-ghost use Rattle.mb_file.specs.Standing.{AllStand};
+ghost use Rattle.mb_file.specs.FilePages.{IsTrusted};
+ghost use Rattle.mb_file.specs.Listing.{AreApart};
+ghost use Rattle.mb_file.specs.Standing.{AllStand, IsShown, rows_told};
 
 use crate::fault::Faults;
 use crate::listing::Listing;
@@ -99,6 +101,10 @@ impl<D: Disk> FileSet<D> {
 
     // How many rows a table has.
     fn counted(&mut self, alloc: Global, table: TableName) -> Result<u64, FileFault>
+        ensures shown { IsTrusted self.new.source.pages → IsShown self.old.source self.old.tiles
+            → IfSome self.old.contents (IsShown self.old.source)
+            → IfOk result (λ count. count ≡ length (rows_told self.old.source self.old.names
+            self.old.tiles self.old.contents table)) }
         ensures faults { self.new.faults ≡ self.old.faults }
     {
         if table == TableName::Metadata {
@@ -108,8 +114,13 @@ impl<D: Disk> FileSet<D> {
             return self.tiles.count(alloc, &mut self.source);
         }
         match &mut self.contents {
-            Some(contents) if contents.is_of(table) => contents.count(alloc, &mut self.source),
-            _ => Ok(0),
+            Some(contents) => {
+                if contents.is_of(table) {
+                    return contents.count(alloc, &mut self.source);
+                }
+                Ok(0)
+            }
+            None => Ok(0),
         }
     }
 
@@ -121,6 +132,10 @@ impl<D: Disk> FileSet<D> {
         from: u64,
         limit: u64,
     ) -> Result<Vec<Row>, FileFault>
+        ensures shown { IsTrusted self.new.source.pages → IsShown self.old.source self.old.tiles
+            → IfSome self.old.contents (IsShown self.old.source)
+            → IfOk result (λ rows. rows.items ≡ take limit (drop from (rows_told self.old.source
+            self.old.names self.old.tiles self.old.contents table))) }
         ensures widths { IfOk result (λ rows. All (λ row. length row ≡ width table) rows.items) }
         ensures limit { IfOk result (λ rows. length rows.items ≤ limit) }
         ensures faults { self.new.faults ≡ self.old.faults }
@@ -132,10 +147,13 @@ impl<D: Disk> FileSet<D> {
             return self.tiles.page(alloc, &mut self.source, table, from, limit);
         }
         match &mut self.contents {
-            Some(contents) if contents.is_of(table) => {
-                contents.page(alloc, &mut self.source, table, from, limit)
+            Some(contents) => {
+                if contents.is_of(table) {
+                    return contents.page(alloc, &mut self.source, table, from, limit);
+                }
+                Ok(Vec::new(alloc))
             }
-            _ => Ok(Vec::new(alloc)),
+            None => Ok(Vec::new(alloc)),
         }
     }
 
@@ -146,6 +164,12 @@ impl<D: Disk> FileSet<D> {
         table: TableName,
         key: &RowKey,
     ) -> Result<Option<Row>, FileFault>
+        ensures shown { IsTrusted self.new.source.pages → IsShown self.old.source self.old.tiles
+            → IfSome self.old.contents (IsShown self.old.source)
+            → AreApart table (rows_told self.old.source self.old.names self.old.tiles
+            self.old.contents table)
+            → IfOk result (λ row. row ≡ find (has_key table key.now) (rows_told self.old.source
+            self.old.names self.old.tiles self.old.contents table)) }
         ensures widths { IfOk result (λ row. IfSome row (λ row. length row ≡ width table)) }
         ensures keyed { IfOk result
             (λ row. IfSome row (λ row. has_key table key.now row ≡ true)) }
@@ -158,10 +182,13 @@ impl<D: Disk> FileSet<D> {
             return self.tiles.find(alloc, &mut self.source, table, key);
         }
         match &mut self.contents {
-            Some(contents) if contents.is_of(table) => {
-                contents.find(alloc, &mut self.source, table, key)
+            Some(contents) => {
+                if contents.is_of(table) {
+                    return contents.find(alloc, &mut self.source, table, key);
+                }
+                Ok(None)
             }
-            _ => Ok(None),
+            None => Ok(None),
         }
     }
 

@@ -1,6 +1,12 @@
-use Rattle.std.proofs.Common.{ap, refl, rules, sym, true, ◌≡◌}
+use Rattle.std.proofs.Common.{drop, IfOk, IfSome, List, Option, subst, take, [], ◌∙◌, ap, rules, sym, ◌≡◌}
 use Rattle.mb_file.proofs.StandingLemmas.{contents_called, tiles_called}
 use Rattle.mb_file.specs.declared.listing.Listing.{Listing}
+use Rattle.mb_tables.specs.Table.{table_eq}
+use Rattle.mb_tables.specs.declared.cell.Cell.{Cell}
+use Rattle.mb_tables.specs.declared.table.TableName.TheVariants.{Metadata}
+use Rattle.mb_file.proofs.ToldLemmas.{answer_by, asked, first_of, none_from_nothing, rows_decided, second_of}
+use Rattle.mb_file.specs.FilePages.{pages_of}
+use Rattle.mb_file.specs.Standing.{contents_told, IsShown, rows_told, shown, Stands}
 use Rattle.mb_file.proofs.store.FileSet.page.Goals as goal
 
 pub invariant_of-self-then-is_of : goal.invariant_of-self-then-is_of
@@ -13,6 +19,31 @@ invariant_of-self-then-is_of g c = record {
 pub invariant_of-self-then-is_of-2 : goal.invariant_of-self-then-is_of-2
 invariant_of-self-then-is_of-2 g c = record {
   stands =
-      contents_called c.args.self.now.source c.page-in-Some.new.source c.page-in-Some.ensures.kept c.page-in-Some.ensures.pages c.page-in-Some.ensures.secret c.args.self.now.tiles c.in-Some.contents c.page-in-Some.new.self c.args.self.now.contents c.args.table c.in-Some.is (search rules) (ap (λ (l : Listing). l.of) c.page-in-Some.ensures.same) (ap (λ (l : Listing). l.table) c.page-in-Some.ensures.same)
-      (λ trusted layout rows laid stored listed. (c.page-in-Some.ensures.lists trusted layout rows laid stored listed).0) c.args.self.now.stands;
+      contents_called c.args.self.now.source c.page-then-is_of-2.new.source c.page-then-is_of-2.ensures.kept c.page-then-is_of-2.ensures.pages c.page-then-is_of-2.ensures.secret c.args.self.now.tiles c.in-Some.contents c.page-then-is_of-2.new.self c.args.self.now.contents c.args.table c.in-Some.is (search rules) (ap (λ (l : Listing). l.of) c.page-then-is_of-2.ensures.same) (ap (λ (l : Listing). l.table) c.page-then-is_of-2.ensures.same)
+      (λ trusted layout rows laid stored listed. (c.page-then-is_of-2.ensures.lists trusted layout rows laid stored listed).0) c.args.self.now.stands;
 }
+
+pub returns-then-is_of-clause-shown : goal.returns-then-is_of-clause-shown
+returns-then-is_of-clause-shown g c = λ trusted tiles contents.
+    let told : rows_told c.args.self.now.source c.args.self.now.names c.args.self.now.tiles c.args.self.now.contents c.args.table ≡ shown c.args.self.now.source.pages.usable (pages_of c.args.self.now.source.pages) c.args.self.now.tiles = second_of (table_eq c.args.table Metadata) _ _ (search rules) ∙ first_of (table_eq c.args.self.now.tiles.table c.args.table) _ _ (search rules) in
+    subst (λ (all : List (List Cell)). IfOk c.page.result (λ got. got.items ≡ take c.args.limit (drop c.args.from all))) (sym told)
+    (answer_by c.page.result (λ got. got.items) (take c.args.limit (drop c.args.from (shown c.args.self.now.source.pages.usable (pages_of c.args.self.now.source.pages) c.args.self.now.tiles))) (λ xs. rows_decided xs (take c.args.limit (drop c.args.from (shown c.args.self.now.source.pages.usable (pages_of c.args.self.now.source.pages) c.args.self.now.tiles)))) c.args.self.now.stands
+    (λ all. asked c.args.self.now.source c.page.new.source c.page.ensures.kept (λ (all : List (List Cell)). IfOk c.page.result (λ got. got.items ≡ take c.args.limit (drop c.args.from all))) c.args.self.now.tiles c.page.new.self c.args.table (search rules) c.page.ensures.lists trusted tiles all.of_tiles))
+
+pub returns-then-is_of-2-clause-shown : goal.returns-then-is_of-2-clause-shown
+returns-then-is_of-2-clause-shown g c = λ trusted tiles contents.
+    let told : rows_told c.args.self.now.source c.args.self.now.names c.args.self.now.tiles c.args.self.now.contents c.args.table ≡ shown c.args.self.now.source.pages.usable (pages_of c.args.self.now.source.pages) c.in-Some.contents =
+    second_of (table_eq c.args.table Metadata) _ _ (search rules) ∙ second_of (table_eq c.args.self.now.tiles.table c.args.table) _ _ (search rules) ∙ ap (λ (o : Option Listing). contents_told c.args.self.now.source o c.args.table) c.in-Some.is ∙ first_of (table_eq c.in-Some.contents.table c.args.table) _ _ (search rules) in
+    subst (λ (all : List (List Cell)). IfOk c.page-then-is_of-2.result (λ got. got.items ≡ take c.args.limit (drop c.args.from all))) (sym told)
+    (answer_by c.page-then-is_of-2.result (λ got. got.items) (take c.args.limit (drop c.args.from (shown c.args.self.now.source.pages.usable (pages_of c.args.self.now.source.pages) c.in-Some.contents))) (λ xs. rows_decided xs (take c.args.limit (drop c.args.from (shown c.args.self.now.source.pages.usable (pages_of c.args.self.now.source.pages) c.in-Some.contents)))) c.args.self.now.stands
+    (λ all. asked c.args.self.now.source c.page-then-is_of-2.new.source c.page-then-is_of-2.ensures.kept (λ (all : List (List Cell)). IfOk c.page-then-is_of-2.result (λ got. got.items ≡ take c.args.limit (drop c.args.from all))) c.in-Some.contents c.page-then-is_of-2.new.self c.args.table (search rules) c.page-then-is_of-2.ensures.lists trusted (subst (λ (o : Option Listing). IfSome o (IsShown c.args.self.now.source)) c.in-Some.is contents) (subst (λ (o : Option Listing). IfSome o (Stands c.args.self.now.source)) c.in-Some.is all.of_contents)))
+
+pub returns-else-is_of-2-clause-shown : goal.returns-else-is_of-2-clause-shown
+returns-else-is_of-2-clause-shown g c = λ trusted tiles contents.
+    let told : rows_told c.args.self.now.source c.args.self.now.names c.args.self.now.tiles c.args.self.now.contents c.args.table ≡ [] = second_of (table_eq c.args.table Metadata) _ _ (search rules) ∙ second_of (table_eq c.args.self.now.tiles.table c.args.table) _ _ (search rules) ∙ ap (λ (o : Option Listing). contents_told c.args.self.now.source o c.args.table) c.in-Some.is ∙ second_of (table_eq c.in-Some.contents.table c.args.table) _ _ (search rules) in
+    c.new.ensures.items ∙ sym (ap (λ (all : List (List Cell)). take c.args.limit (drop c.args.from all)) told ∙ none_from_nothing c.args.limit c.args.from)
+
+pub returns-in-None-clause-shown : goal.returns-in-None-clause-shown
+returns-in-None-clause-shown g c = λ trusted tiles contents.
+    let told : rows_told c.args.self.now.source c.args.self.now.names c.args.self.now.tiles c.args.self.now.contents c.args.table ≡ [] = second_of (table_eq c.args.table Metadata) _ _ (search rules) ∙ second_of (table_eq c.args.self.now.tiles.table c.args.table) _ _ (search rules) ∙ ap (λ (o : Option Listing). contents_told c.args.self.now.source o c.args.table) c.in-None.is in
+    c.new-in-None.ensures.items ∙ sym (ap (λ (all : List (List Cell)). take c.args.limit (drop c.args.from all)) told ∙ none_from_nothing c.args.limit c.args.from)
