@@ -89,7 +89,7 @@ follow() {
 convert() {
     expected=$(bytes_to_read "$@")
     set -- ${force:+--force} ${verify:+--verify} ${hash:+--hash} ${overwrite:+--overwrite} ${strict:+--strict} \
-        ${part:+"$part" "$first" "$second"} ${third:+"$third"} -- "$@"
+        ${part:+"$part" "$part_first" "$part_second"} ${part_third:+"$part_third"} -- "$@"
     # where it is installed the program stands beside this script
     if [ -x "$here/mbtiles_to_pmtiles_program" ]; then
         "$here/mbtiles_to_pmtiles_program" "$@" &

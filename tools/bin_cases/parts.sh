@@ -52,6 +52,19 @@ run "$fatyngu" show 3.pmtiles
 prints '^zooms 1 to 5$'
 ends
 
+fresh 'parts of a set that sqlite3 rewrites first, behind a link'
+parted_sets
+{
+    echo "pragma encoding = 'UTF-16le';"
+    "$real" base.mbtiles .dump
+} | "$real" wide.mbtiles
+ln -s wide.mbtiles linked.mbtiles
+parts_make linked.mbtiles
+run "$convert" base.mbtiles plain.pmtiles
+status 0
+holds cmp -s plain.pmtiles whole.pmtiles
+ends
+
 fresh 'a part without tiles, and the hash of a part'
 parted_sets
 run "$convert" --ids 341 6148914691236517204 base.mbtiles none.pmtiles
