@@ -1,4 +1,4 @@
-//! Texts, blobs, want of memory and counts, which every crate above shares.
+//! Texts, blobs, `OutOfMemory` and counts, which every crate above shares.
 #![tactic(auto)]
 
 mod blob;

@@ -91,7 +91,7 @@ impl<V: Weigh> BoundedLru<V> {
 impl<V: Weigh + Drop> BoundedLru<V> {
     /// Puts a value at a key, in front of the others, and gives up the last of these until the rest is within
     /// the bounds. `Ok(false)` comes exactly for a value that weighs more than the limit. It changes nothing,
-    /// as want of memory doesn't.
+    /// as running out of memory doesn't.
     pub fn insert(&mut self, key: u64, value: V) -> Result<bool, OutOfMemory>
         ensures puts { Puts V.weight self.old self.new key value result }
         ensures within { IsWithin V.weight self.new }

@@ -11,7 +11,7 @@ use Rattle.byte_media.specs.declared.medium.MediumFault.{MediumFault}
 
 -- Over told bytes: the bytes from the offset, as many as asked and there; PastEnd only where the offset is
 -- above their length; Short never. So where the offset is above their length only PastEnd is left, but for
--- want of memory and a fault.
+-- running out of memory and a fault.
 abbrev pub ReadAnswers : List ℕ → ℕ → ℕ → Result BackendResponse ReadFault → Type 0
 ReadAnswers bytes offset n (Ok r) = (offset ≤ length bytes) × (r.bytes ≡ take n (drop offset bytes))
 ReadAnswers bytes offset n (Err PastEnd) = length bytes < offset
@@ -43,14 +43,14 @@ ReadExactCauses before now n (Err (Short asked got)) = asked ≢ got
 ReadExactCauses before now n (Err Fault) = Rose before now
 ReadExactCauses before now n (Err OutOfMemory) = Unit {0}
 
--- an error leaves the count of faults as it is, but for a fault and want of memory
+-- an error leaves the count of faults as it is, but for a fault and running out of memory
 abbrev pub StandsAtError : ℕ → ℕ → ReadFault → Type 0
 StandsAtError before now Fault = Unit {0}
 StandsAtError before now PastEnd = now ≡ before
 StandsAtError before now (Short asked got) = now ≡ before
 StandsAtError before now OutOfMemory = Unit {0}
 
--- a read leaves the count of faults as it is, but for a fault and want of memory
+-- a read leaves the count of faults as it is, but for a fault and running out of memory
 abbrev pub FaultsStand : {A : Type 0} → ℕ → ℕ → Result A ReadFault → Type 0
 FaultsStand before now (Ok x) = now ≡ before
 FaultsStand before now (Err e) = StandsAtError before now e
@@ -72,7 +72,7 @@ EndsBelow offset piece end = offset + length piece < end
 abbrev pub written : List ℕ → ℕ → List ℕ → List ℕ
 written bytes at piece = take at bytes ++ (piece ++ drop (at + length piece) bytes)
 
--- Ok has the piece written, Fault a front of it, and want of memory leaves all as it was.
+-- Ok has the piece written, Fault a front of it, and running out of memory leaves all as it was.
 abbrev pub WriteGives : ℕ → List ℕ → Result Unit WriteFault → List ℕ → List ℕ → Type 0
 WriteGives offset piece (Ok _) old new = new ≡ written old offset piece
 WriteGives offset piece (Err writes.Fault) old new = (n : ℕ) × (n ≤ length piece) × (new ≡ written old offset (take n piece))

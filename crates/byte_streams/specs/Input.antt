@@ -22,7 +22,7 @@ abbrev pub InputCounts : ℕ → ℕ → Result (Vec ℕ Global) InputError → 
 InputCounts before now (Ok bytes) = Grew before now (length bytes.items) × (length bytes.items ≤ MAX_INPUT)
 InputCounts before now (Err e) = StopCounts before now e
 
--- the count of faults stands, but for a fault and want of memory
+-- the count of faults stands, but for a fault and running out of memory
 abbrev pub FaultsStand : {A : Type 0} → ℕ → ℕ → Result A InputError → Type 0
 FaultsStand before now (Ok x) = now ≡ before
 FaultsStand before now (Err TooLong) = now ≡ before

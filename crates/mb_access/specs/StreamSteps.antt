@@ -80,8 +80,8 @@ GivesTile items None rest = (items ≡ []) × (rest ≡ [])
 GivesTile items (Some (Ok e)) rest = items ≡ (place_at e.0, e.1) ∷ rest
 GivesTile items (Some (Err e)) rest = rest ≡ []
 
--- Whatever the store answers: an error is want of memory, or a fault where its count rose; the count stands where no
--- error comes.
+-- Whatever the store answers: an error is running out of memory, or a fault where its count rose; the count
+-- stands where no error comes.
 abbrev pub StreamCauses : {A : Type 0} → ℕ → ℕ → Option (Result A MbtError) → Type 0
 StreamCauses before now None = now ≡ before
 StreamCauses before now (Some (Ok x)) = now ≡ before

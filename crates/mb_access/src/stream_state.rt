@@ -176,8 +176,8 @@ impl StreamState {
         None
     }
 
-    /// The coordinate of the next tile, null ones included, or an error, after which none comes: want of memory, or
-    /// `StoreFault` where the store's count of faults rose.
+    /// The coordinate of the next tile, null ones included, or an error, after which none comes: running out of memory,
+    /// or `StoreFault` where the store's count of faults rose.
     ///
     /// Rows are read a page at a time. The store holds what it held, and is to be the one that was loaded.
     pub fn next_coord<S: TileStore>(&mut self, store: &mut S) -> Option<MbtResult<TileCoord>>

@@ -11,8 +11,8 @@ use mb_store::{MbtResult, TileStore};
 use std::alloc::Global;
 use tile_ids::TileCoord;
 
-/// The coordinates of a set's tiles, null ones included, in the order of their rows. An error ends them: want of
-/// memory, or `StoreFault` where the store's count of faults rose.
+/// The coordinates of a set's tiles, null ones included, in the order of their rows. An error ends them: running
+/// out of memory, or `StoreFault` where the store's count of faults rose.
 pub struct Coords<'s, S: TileStore, T = StreamState> {
     pub(crate) store: &'s mut S,
     pub(crate) state: T,
@@ -99,9 +99,9 @@ impl<'s, S: TileStore> Iterator for Tiles<'s, S> {
 
 /// The coordinates of a set's tiles in the order of their rows: `StreamState::start`, and then `Coords::over`.
 ///
-/// An error is one that `start` answers: a refusal of `load`, want of memory, or a fault, which doesn't come over a
-/// store whose calls don't fail. After an error the store holds and tells what it did, and its count of faults didn't
-/// fall, and rose where `StoreFault` came (`rests`). Whoever needs this for a proof calls `start`.
+/// An error is one that `start` answers: a refusal of `load`, running out of memory, or a fault, which doesn't come
+/// over a store whose calls don't fail. After an error the store holds and tells what it did, and its count of faults
+/// didn't fall, and rose where `StoreFault` came (`rests`). Whoever needs this for a proof calls `start`.
 pub fn stream_coords<'s, S: TileStore>(alloc: Global, store: &'s mut S) -> MbtResult<Coords<'s, S>>
     ensures* rests { sem 𝓛 (RestsIfErr S.row store.entry (λ c. c.store.ghost_name) result
         (LeftByStart S.told S.tells S.faults S.steady store.old result)) }
@@ -123,9 +123,9 @@ pub fn stream_coords<'s, S: TileStore>(alloc: Global, store: &'s mut S) -> MbtRe
 
 /// The tiles of a set in the order of their rows: `StreamState::start`, and then `Tiles::over`.
 ///
-/// An error is one that `start` answers: a refusal of `load`, want of memory, or a fault, which doesn't come over a
-/// store whose calls don't fail. After an error the store holds and tells what it did, and its count of faults didn't
-/// fall, and rose where `StoreFault` came (`rests`). Whoever needs this for a proof calls `start`.
+/// An error is one that `start` answers: a refusal of `load`, running out of memory, or a fault, which doesn't come
+/// over a store whose calls don't fail. After an error the store holds and tells what it did, and its count of faults
+/// didn't fall, and rose where `StoreFault` came (`rests`). Whoever needs this for a proof calls `start`.
 pub fn stream_tiles<'s, S: TileStore>(alloc: Global, store: &'s mut S) -> MbtResult<Tiles<'s, S>>
     ensures* rests { sem 𝓛 (RestsIfErr S.row store.entry (λ c. c.store.ghost_name) result
         (LeftByStart S.told S.tells S.faults S.steady store.old result)) }

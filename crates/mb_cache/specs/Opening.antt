@@ -33,7 +33,7 @@ begun_with t = cond (is_bare t.descriptions) (created t (set_tables Cache)) t
 abbrev pub open_answer : Tables → Result (Unit {0}) MbtError
 open_answer t = then (begin_answer t.descriptions) (λ _. then (state_of (begun_with t)) (λ _. Ok tt))
 
--- a store of the tables opens, but for want of memory and faults
+-- a store of the tables opens, but for running out of memory and faults
 abbrev pub Opens : Tables → Type 0
 Opens t = open_answer t ≡ Ok tt
 
@@ -51,7 +51,7 @@ abbrev pub described_answer : List TableDesc → Result (Unit {0}) MbtError
 described_answer ds = cond (is_cache_layout (layout_of ds)) (cond (list_any is_metadata ds) (cond (is_keyed ds TileCache) (Ok tt) (Err NoUniquenessConstraint)) (Err InvalidDataFormat)) (Err NotACacheFile)
 
 -- what opening tables gives: the entries of a cache that agree with them, or the refusal that is due, unless memory
--- or the store was wanting
+-- ran out or the store failed
 abbrev pub OpensAs : Tables → Result (List Entry) MbtError → Type 0
 OpensAs t (Ok es) = Agrees t es
 OpensAs t (Err e) = is_free e ≡ false → open_answer t ≡ Err e

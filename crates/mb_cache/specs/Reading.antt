@@ -32,7 +32,7 @@ cached_of row = option_map (λ bytes. record {
 }) (bytes_of row)
 
 -- the answer that is due of the row of a coordinate: of the one that the store tells, and of some where it
--- tells nothing. Nothing is at three numbers that are no coordinate. Only want of memory and a fault of the
+-- tells nothing. Nothing is at three numbers that are no coordinate. Only running out of memory and a fault of the
 -- store may come in its place
 pub record IsRead {A : Type 0} (f : List Cell → Option A) (z x y : ℕ) (tells : Bool) (told : Tables) (answer : Result (Option A) MbtError) : Type 0 where
   pub row : Option (List Cell)

@@ -5,8 +5,8 @@ ghost use Rattle.mb_cache.specs.Opening.{Opens};
 ghost use Rattle.mb_cache.specs.State.{Agrees};
 ghost use Rattle.mb_cache.specs.Common.{Tables};
 
-/// Tables that agree with a cache open again: only want of memory and faults of their store may refuse them. Each call
-/// of a cache leaves such tables, refused or not.
+/// Tables that agree with a cache open again: only running out of memory and faults of their store may refuse them.
+/// Each call of a cache leaves such tables, refused or not.
 pub fn opens_again()
     ensures { (t : Tables) (es : List Entry) → Agrees t es → Opens t }
 {}

@@ -72,8 +72,8 @@ pub record IsCopiedBy (c : MbtilesCopier) (tells : Bool) (told old new : Tables)
   pub valid : invalid c.validate source ≡ None
   pub copied : IsCopied c source (has_any old.descriptions) old new
 
--- the tables of a destination after a refusal: as they were; or made, where there were none and then memory
--- or the store was wanting
+-- the tables of a destination after a refusal: as they were; or made, where there were none and then memory ran out
+-- or the store failed
 pub record AreMade (c : MbtilesCopier) (source : State) (old new : Tables) (e : MbtError) : Type 0 where
   pub free : is_free e ≡ true
   pub none : old.descriptions ≡ []

@@ -164,7 +164,7 @@ impl MbtilesCopier {
     ///    id of the first such tile.
     ///
     /// The source is only read. Refused, the destination holds what it held; or only its tables were made, where
-    /// memory or the store was wanting. After Ok it loads again as the set with the copies, and all rows under
+    /// memory ran out or the store failed. After Ok it loads again as the set with the copies, and all rows under
     /// other keys than those that were put are as before, in their order; the rows are one commit. A store that
     /// tells nothing is answered as is due of some tables. `StoreFault` comes only where the count of faults of
     /// one of the two stores rose, and at Ok both counts stand.

@@ -98,7 +98,7 @@ impl MbtilesCopier {
     ///    both hashes; not with `force`.
     ///
     /// The source and the patch are only read. Refused, the destination holds what it held; or only its tables were
-    /// made, where memory or the store was wanting. After Ok it loads again as the copy; the rows are one commit. A
+    /// made, where memory ran out or the store failed. After Ok it loads again as the copy; the rows are one commit. A
     /// store that tells nothing is answered as is due of some tables. `StoreFault` comes only where the count of faults
     /// of one of the three stores rose, and at Ok all three counts stand.
     pub fn run_with_patch<S: TileStore, D: TileStore, P: TileStore>(

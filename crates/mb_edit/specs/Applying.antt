@@ -51,7 +51,7 @@ abbrev pub answer_of : Result State MbtError → Result (Unit {0}) MbtError
 answer_of r = then r (λ next. Ok tt)
 
 -- the answer that is due of a set and a patch: of what they tell, and of some tables that their answers could be of,
--- where they tell nothing. Only want of memory and a fault of a store may come in its place
+-- where they tell nothing. Only running out of memory and a fault of a store may come in its place
 pub record IsAnsweredBy (force : Bool) (base_tells : Bool) (base_told : Tables) (patch_tells : Bool) (patch_told : Tables) (answer : Result (Unit {0}) MbtError) : Type 0 where
   pub base : Tables
   pub is_base : base_tells ≡ true → base ≡ base_told

@@ -20,6 +20,6 @@ pub begun_err : {A : Type 0} (f : State → Result A MbtError) (tells : Bool) (t
 begun_err f true told e it own = record { tables = told; is_told = λ _. refl; answers = err_at f told e (it refl) }
 begun_err f false told e it own = record { tables = own.0; is_told = λ h. absurd (false≢true h); answers = err_at f own.0 e own.1 }
 
--- a set that was loaded, and memory or the store was wanting then
+-- a set that was loaded, and memory or the store failed then
 pub begun_free : {A : Type 0} (f : State → Result A MbtError) (tells : Bool) (told : Tables) (h : Held) (e : MbtError) → is_free e ≡ true → (tells ≡ true → Loads (state_of told) (Ok h)) → ((t : Tables) × Loads (state_of t) (Ok h)) → IsBegun f tells told (Err e)
 begun_free f tells told h e free it own = begun_ok f tells told h (Err e) it own (λ k. absurd (false≢true (sym k ∙ free)))

@@ -78,7 +78,7 @@ own_of layout r ds patch_type metadata contents rows p l m x h loads = (
   answer_of (made ds layout metadata contents rows) layout r ds patch_type metadata contents rows refl p l m x refl (sym (made_contents ds layout metadata contents rows h)) (sym (made_rows ds layout metadata contents rows)) loads,
 )
 
--- a store that failed, or want of memory, is due of any tables
+-- a store that failed, or running out of memory, is due of any tables
 pub store_free : (s : StoreError) → is_free (of_store s) ≡ true
 store_free Fault = refl
 store_free OutOfMemory = refl

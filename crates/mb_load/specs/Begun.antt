@@ -8,7 +8,7 @@ unfoldable pub begun : {A : Type 0} → (State → Result A MbtError) → Tables
 begun f t = then (state_of t) f
 
 -- the answer that is due of a store: of the tables that it tells, and of some that its answers could be of, where it
--- tells nothing. Only want of memory and a fault of the store may come in its place
+-- tells nothing. Only running out of memory and a fault of the store may come in its place
 pub record IsBegun {A : Type 0} (f : State → Result A MbtError) (tells : Bool) (told : Tables) (answer : Result A MbtError) : Type 0 where
   pub tables : Tables
   pub is_told : tells ≡ true → tables ≡ told

@@ -4,7 +4,7 @@ use Rattle.mb_load.specs.Common.{algorithm_of, by_place, Cell, contents_by_id, d
 use Rattle.mb_load.specs.LoadingOrder.{row_refusals}
 use Rattle.mb_tables.specs.declared.patch_type.PatchType.{PatchType}
 
--- the state that is due, with nothing edited; or the refusal that is due, unless memory or the store was wanting
+-- the state that is due, with nothing edited; or the refusal that is due, unless memory ran out or the store failed
 abbrev pub Loads : Result State MbtError → Result Held MbtError → Type 0
 Loads due (Ok held) = (due ≡ Ok held.state) × (held.edited ≡ nothing_edited)
 Loads due (Err e) = is_free e ≡ false → due ≡ Err e

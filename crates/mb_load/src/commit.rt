@@ -8,8 +8,8 @@ use mb_loaded::Loaded;
 use mb_store::{MbtError, MbtResult, TileStore};
 use std::alloc::Global;
 
-/// Commits all edits of a loaded set at once to the store that it was loaded from. Only want of memory and a fault of
-/// the store refuse it, and then the store holds what it held.
+/// Commits all edits of a loaded set at once to the store that it was loaded from. Only running out of memory and a
+/// fault of the store refuse it, and then the store holds what it held.
 pub fn commit_loaded<S: TileStore>(alloc: Global, store: &mut S, set: &Loaded) -> MbtResult<()>
     requires { S.tells store.old ≡ true → IsLoadedFrom (S.told store.old) set.now }
     ensures committed { S.tells store.old ≡ true

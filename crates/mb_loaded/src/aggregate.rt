@@ -53,7 +53,7 @@ impl Loaded {
     /// The hash of all tiles by the algorithm of the set: of their numbers in decimal and their bytes, one tile after
     /// another in the order of zoom, column and row counted from the bottom. Null adds no bytes. In hexadecimal, also
     /// for `Fnv1aDecimal`; a set without tiles has the digest of no bytes, which is decimal for that algorithm. It
-    /// fails only for want of memory, of which it takes no more than the text needs.
+    /// fails only by running out of memory, of which it takes no more than the text needs.
     pub fn aggregate(&self, alloc: Global) -> Result<TextVal, OutOfMemory>
         ensures { IfOk result
             (λ text. text ≡ aggregate self.now.state.algorithm self.now.state.tiles) }

@@ -106,7 +106,7 @@ fn document_edits(alloc: Global, document: &TileJson) -> Result<Vec<NameEdit>, O
 }
 
 /// A loaded set with what a document says in its metadata, as `insert_metadata` puts it into that of a store. Nothing
-/// is committed. Only want of memory refuses it.
+/// is committed. Only running out of memory refuses it.
 ///
 /// No number of the given values of JSON is held as a float by `serde_json`.
 pub fn with_document(

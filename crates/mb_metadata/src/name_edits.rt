@@ -79,7 +79,7 @@ pub(crate) fn after_edits(set: Loaded, edits: Vec<NameEdit>) -> Result<Loaded, O
 }
 
 /// Makes edits of a set as it was loaded, in one commit to its store. Where there is none it doesn't touch the store.
-/// Only want of memory and a fault of the store refuse it, and then the store holds what it held.
+/// Only running out of memory and a fault of the store refuse it, and then the store holds what it held.
 pub(crate) fn commit_edits<S: TileStore>(
     alloc: Global,
     store: &mut S,

@@ -101,7 +101,7 @@ fn update_edits(
 }
 
 /// A loaded set whose metadata names the zooms of its tiles, as `update_metadata` stores them. Only
-/// want of memory refuses it.
+/// running out of memory refuses it.
 pub fn with_zooms(
     alloc: Global,
     set: Loaded,

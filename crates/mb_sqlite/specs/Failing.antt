@@ -7,7 +7,7 @@ use Rattle.mb_store.specs.declared.store.StoreError.TheVariants as answers
 use Rattle.mb_sqlite.specs.declared.failure.Failure.{Failure}
 use Rattle.mb_sqlite.specs.declared.failure.Failure.TheVariants.{Fault, OutOfMemory}
 
--- an error of the database is a fault, but for want of memory
+-- an error of the database is a fault, but for running out of memory
 abbrev pub failure_of : Error → Failure
 failure_of (errors.SqliteFailure codes.OutOfMemory) = OutOfMemory
 failure_of e = Fault

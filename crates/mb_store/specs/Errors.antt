@@ -13,6 +13,6 @@ of_store OutOfMemory = refusals.OutOfMemory
 abbrev pub RefusesTwice : {A : Type 0} → TableName → Bool → Result A MbtError → Type 0
 RefusesTwice table is result = IsErrOf result (refusals.DuplicateRow table) ↔ (is ≡ true)
 
--- and for nothing else but want of memory
+-- and for nothing else but running out of memory
 abbrev pub IsRowError : TableName → MbtError → Type 0
 IsRowError table e = (e ≡ refusals.DuplicateRow table) ⊎ (e ≡ refusals.OutOfMemory)

@@ -75,7 +75,7 @@ fn prepare_all(
     })
 }
 
-// Adds the rows that changes put. Where memory is wanting, some of them may be there.
+// Adds the rows that changes put. When out of memory, some of them may be there.
 fn put_tables(alloc: Global, changes: &[Change], tables: &mut MemTables) -> Result<(), OutOfMemory>
     requires sound { AreChanges changes.now }
     requires stored { AreAllStored tables.old }
@@ -190,7 +190,7 @@ fn remove_tables(edits: ByTable<Edits>, tables: &mut MemTables)
     remove_table(TableName::Metadata, edits.metadata, &mut tables.metadata);
 }
 
-// Makes all changes, or none where memory is wanting.
+// Makes all changes, or none when out of memory.
 pub(crate) fn commit_all(
     alloc: Global,
     changes: &[Change],

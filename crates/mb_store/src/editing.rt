@@ -31,7 +31,7 @@ pub(crate) fn keys_of(
     Ok(keys)
 }
 
-// Adds the row that a change puts, if it is of the table. Where memory is wanting, the rows stay.
+// Adds the row that a change puts, if it is of the table. When out of memory, the rows stay.
 fn put(
     alloc: Global,
     table: TableName,
@@ -56,7 +56,7 @@ fn put(
     }
 }
 
-// Adds the rows that the changes of a table put. Where memory is wanting, some of them may be there.
+// Adds the rows that the changes of a table put. When out of memory, some of them may be there.
 pub(crate) fn put_all(
     alloc: Global,
     table: TableName,

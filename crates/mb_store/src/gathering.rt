@@ -105,7 +105,7 @@ fn stands(
             || is_among(row, gathered.rows.as_slice()))
 }
 
-// The refusal of a row that can't be added for want of memory: as one that stands already, where it is one.
+// The refusal of a row that can't be added when out of memory: as one that stands already, where it is one.
 fn refusal(
     tables: &MemTables,
     gathered: &Gathered,

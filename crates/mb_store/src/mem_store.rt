@@ -112,7 +112,7 @@ impl MemStore {
     }
 
     /// Takes the rows of a table, in the order of their keys: their texts and bytes are moved. The table has no rows
-    /// then, also where memory is wanting for the list of the rows. It is none of the calls that can fail.
+    /// then, also when there is no memory for the list of the rows. It is none of the calls that can fail.
     pub fn take_rows(&mut self, alloc: Global, table: TableName) -> Result<Vec<Row>, OutOfMemory>
         ensures rows { IfOk result (λ rows. rows.items ≡ (told_of self.old).rows table) }
         ensures widths { IfOk result (λ rows. All (λ row. length row ≡ width table) rows.items) }

@@ -131,7 +131,7 @@ pub(crate) fn has_equal(table: TableName, row: &StoredRow, rows: &TableRows) -> 
     first_early(row, rows.next, &rows.stored).is_some()
 }
 
-// Adds a row behind those of its key, with the next number. Where memory is wanting, the rows stay.
+// Adds a row behind those of its key, with the next number. When out of memory, the rows stay.
 pub(crate) fn add(table: TableName, row: StoredRow, rows: &mut TableRows) -> Result<(), OutOfMemory>
     requires wide { length row.0 ≡ width table }
     requires stored { AreStored table rows.old }
@@ -222,7 +222,7 @@ pub(crate) fn push(table: TableName, keyed: bool, row: Row, rows: &mut TableRows
     }
 }
 
-// Puts a row of the number 0 at its place. Where memory is wanting it is given back.
+// Puts a row of the number 0 at its place. When out of memory it is given back.
 fn put(table: TableName, row: StoredRow, rows: &mut TableRows) -> Result<(), StoredRow>
     requires wide { length row.0 ≡ width table }
     requires first { row.1 ≡ 0 }
@@ -243,7 +243,7 @@ fn put(table: TableName, row: StoredRow, rows: &mut TableRows) -> Result<(), Sto
     }
 }
 
-// Puts the rows of a list at their places, the last first. Where memory is wanting those that
+// Puts the rows of a list at their places, the last first. When out of memory those that
 // are left stay in the list.
 pub(crate) fn put_all(
     table: TableName,

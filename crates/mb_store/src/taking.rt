@@ -81,7 +81,7 @@ fn take_beside(
     reading::into_rows(alloc, mem_tables::take(alloc, tables, table))
 }
 
-// Takes the rows of a table in the order of their keys. The table has none then, also where memory is wanting.
+// Takes the rows of a table in the order of their keys. The table has none then, also when out of memory.
 pub(crate) fn take(
     alloc: Global,
     tables: &mut MemTables,

@@ -17,7 +17,7 @@ first_refusal (r ∷ rs) = option_or r (first_refusal rs)
 abbrev pub first_refused : {A : Type 0} → (A → Option MbtError) → List A → Option MbtError
 first_refused test xs = first_refusal (map test xs)
 
--- want of memory, or a store that failed: no refusal of the set
+-- running out of memory, or a store that failed: no refusal of the set
 abbrev pub is_free : MbtError → Bool
 is_free StoreFault = true
 is_free OutOfMemory = true
@@ -28,7 +28,7 @@ abbrev pub Tests : {A : Type 0} → Option MbtError → Result A MbtError → Ty
 Tests due (Ok x) = due ≡ None
 Tests due (Err e) = (is_free e ≡ false → due ≡ Some e) × (e ≢ StoreFault)
 
--- an answer is the one that is due, unless memory or the store was wanting
+-- an answer is the one that is due, unless memory ran out or the store failed
 abbrev pub Answers : {A : Type 0} → Result A MbtError → Result A MbtError → Type 0
 Answers due (Ok x) = due ≡ Ok x
 Answers due (Err e) = is_free e ≡ false → due ≡ Err e

@@ -14,7 +14,7 @@ module _ (scheme : TileScheme) (shows : Bool) (files : Files) (tells : Bool) (to
   }
 
   module _ (base : Base) (b : IsBaseOf tells told (Ok base)) where
-    -- want of memory, and a fault
+    -- running out of memory, and a fault
     pub ended : (e : MbtError) → is_wanting e ≡ true → IsPacking scheme shows files tells told (Err e)
     ended e wants = record {
       paths = paths_of files;

@@ -115,7 +115,7 @@ new_named h is = subst (λ (k : Held). NamesAlgorithm k.state) (sym is) (record 
   named = ap (λ (o : Option (Option (List ℕ))). algorithm_by (option_and_then (λ (value : Option (List ℕ)). value) o)) (get-empty {X = Option (List ℕ)} (slice_cmp nat_cmp) (codes "hash_algorithm"));
 })
 
--- want of memory, and a store that failed
+-- running out of memory, and a store that failed
 pub base_wanting : (tells : Bool) (told : Tables) (e : MbtError) → (e ≡ StoreFault) ⊎ (e ≡ OutOfMemory) → IsBaseOf tells told (Err e)
 base_wanting tells told e either = record { tables = told; is_told = λ _. refl; state = tt; refused = λ w. absurd (false≢true (sym w ∙ wants either)) }
   where

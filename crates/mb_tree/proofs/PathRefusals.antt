@@ -1,4 +1,4 @@
--- The tests of paths never answer a fault of a tree, and want of memory or a fault is no refusal of files.
+-- The tests of paths never answer a fault of a tree, and running out of memory or a fault is no refusal of files.
 use Rattle.mb_tree.proofs.Common.{ap, as_given, bad_coord, Bool, Err, false, false≢true, FileFormat, Files, first_refusal, first_refused, InconsistentTileFormats, Int, InvalidTileIndex, is_coord}
 use Rattle.mb_tree.proofs.Common.{is_free, is_some, is_wanting, List, MbtError, None, Option, option_and_then, path_refused, paths_of, pos, refl, RefusesPaths, Result, same_format, Some, State, sym}
 use Rattle.mb_tree.proofs.Common.{tile_path, tile_refusals, TilePath, TileScheme, TreeFault, true, unless, UnsupportedFileExtension, ℕ, [], ◌∙◌, ◌∷◌, ◌≡◌, ◌≢◌}

@@ -6,7 +6,7 @@ abbrev pub is_tree_fault : MbtError → Bool
 is_tree_fault TreeFault = true
 is_tree_fault _ = false
 
--- want of memory, or a store or a tree that failed: no refusal of the set or of the files
+-- running out of memory, or a store or a tree that failed: no refusal of the set or of the files
 abbrev pub is_wanting : MbtError → Bool
 is_wanting e = is_free e || is_tree_fault e
 

@@ -15,7 +15,7 @@ abbrev pub WroteFront : ℕ → List ℕ → List ℕ → List ℕ → Type 0
 WroteFront at piece b c = (n : ℕ) × (n ≤ length piece) × (c ≡ written b at (take n piece))
 
 -- what is left by a piece at a place: all of it after Ok, a front of it after a fault, and none
--- of it for want of memory
+-- of it when out of memory
 abbrev pub LeavesPiece : {A : Type 0} → ℕ → List ℕ → Result A WriteFault → Option (List ℕ) → Option (List ℕ) → Type 0
 LeavesPiece at piece (Ok _) old new = BothTold (λ b c. c ≡ written b at piece) old new
 LeavesPiece at piece (Err writes.Fault) old new = BothTold (WroteFront at piece) old new

@@ -13,8 +13,8 @@ Gives wanted (Err (errors.Reading causes.Fault)) = Unit {0}
 Gives wanted (Err (errors.UnexpectedNumberOfBytesReturned asked got)) = ⊥
 Gives wanted (Err e) = wanted ≡ Err e
 
--- Told or not: a refusal is one of the bytes, their end, a wrong number of bytes, want of memory, or a fault, which
--- comes only where the count of faults rose.
+-- Told or not: a refusal is one of the bytes, their end, a wrong number of bytes, running out of memory, or a fault,
+-- which comes only where the count of faults rose.
 abbrev pub LookUpCauses : {A : Type 0} → ℕ → ℕ → Result A PmtError → Type 0
 LookUpCauses before now (Ok _) = Unit {0}
 LookUpCauses before now (Err errors.InvalidEntry) = Unit {0}

@@ -25,8 +25,8 @@ MetadataAnswers range (Err (errors.SourceModified a b)) = ⊥
 MetadataAnswers range (Err errors.BudgetSpent) = ⊥
 MetadataAnswers range (Err e) = Gives range (Err e)
 
--- Told or not: a refusal is one of the text, the end of the bytes, a wrong number of bytes, want of memory, or a fault,
--- which comes only where the count of faults rose.
+-- Told or not: a refusal is one of the text, the end of the bytes, a wrong number of bytes, running out of memory, or a
+-- fault, which comes only where the count of faults rose.
 abbrev pub MetadataCauses : {A : Type 0} → ℕ → ℕ → Result A PmtError → Type 0
 MetadataCauses before now (Ok _) = Unit {0}
 MetadataCauses before now (Err errors.InvalidMetadataUtf8Encoding) = Unit {0}

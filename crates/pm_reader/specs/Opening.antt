@@ -34,7 +34,8 @@ IsOpen told s = IfSome told (λ b. OpensAs b s)
 abbrev pub HasVersionOf : Option (ℕ → Option (List ℕ)) → ℕ → ReaderState → Type 0
 HasVersionOf versions number s = IfSome versions (λ text. version_of s ≡ text number)
 
--- Over told bytes: exactly what they open as, header and root or the first refusal, but for want of memory and a fault.
+-- Over told bytes: exactly what they open as, header and root or the first refusal, but for running
+-- out of memory and a fault.
 abbrev pub OpenAnswers : List ℕ → Result ReaderState PmtError → Type 0
 OpenAnswers b (Ok s) = OpensAs b s
 OpenAnswers b (Err errors.OutOfMemory) = Unit {0}
@@ -52,13 +53,13 @@ IsOpenRefusal errors.InvalidTileType = Unit {0}
 IsOpenRefusal (errors.UnsupportedCompression label) = Unit {0}
 IsOpenRefusal _ = ⊥
 
--- an error that opening may have over any backend: a refusal of the bytes, want of memory, or a fault
+-- an error that opening may have over any backend: a refusal of the bytes, running out of memory, or a fault
 abbrev pub IsOpenFailure : PmtError → Type 0
 IsOpenFailure errors.OutOfMemory = Unit {0}
 IsOpenFailure (errors.Reading causes.Fault) = Unit {0}
 IsOpenFailure e = IsOpenRefusal e
 
--- Told or not: a refusal is one of the bytes, want of memory, or a fault, which comes only where
+-- Told or not: a refusal is one of the bytes, running out of memory, or a fault, which comes only where
 -- the count of faults rose.
 abbrev pub OpenCauses : {A : Type 0} → ℕ → ℕ → Result A PmtError → Type 0
 OpenCauses before now (Ok _) = Unit {0}
@@ -66,7 +67,7 @@ OpenCauses before now (Err errors.OutOfMemory) = Unit {0}
 OpenCauses before now (Err (errors.Reading causes.Fault)) = Rose before now
 OpenCauses before now (Err e) = IsOpenRefusal e
 
--- reading the front: want of memory, or a fault
+-- reading the front: running out of memory, or a fault
 abbrev pub FrontCauses : {A : Type 0} → ℕ → ℕ → Result A PmtError → Type 0
 FrontCauses before now (Ok _) = Unit {0}
 FrontCauses before now (Err errors.OutOfMemory) = Unit {0}

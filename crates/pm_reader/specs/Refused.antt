@@ -5,7 +5,7 @@ use Rattle.pm_reader.specs.Opening.{OpenCauses}
 use Rattle.pm_reader.specs.Reads.{ReadsOnly}
 
 -- The backend is read once and no more, tells what it told, and a fault comes only where its count of faults rose,
--- which else stands, but for want of memory.
+-- which else stands, but for running out of memory.
 pub record LeftByOpening {A B V : Type 0} (told : B → Option (List ℕ)) (texts : B → V) (failed read : B → ℕ) (steady : B → Type 0) (old : B) (result : Result A PmtError) (new : B) : Type 0 where
   pub causes : OpenCauses (failed old) (failed new) result
   pub still : FaultsStand (failed old) (failed new) result

@@ -12,8 +12,8 @@ Agree (Some a) (Some b) = a ≡ b
 Agree None b = Unit {0}
 Agree (Some a) None = Unit {0}
 
--- a response is answered by its bytes, or refused exactly where both texts are given and differ; want of memory may
--- come in place of that refusal
+-- a response is answered by its bytes, or refused exactly where both texts are given and differ; running out of memory
+-- may come in place of that refusal
 abbrev pub IsCompared : Option (List ℕ) → BackendResponse → Result (List ℕ) PmtError → Type 0
 IsCompared opened r (Ok bytes) = (bytes ≡ r.bytes) × Agree opened r.data_version_string
 IsCompared opened r (Err (errors.SourceModified a b)) = (opened ≡ Some a) × (r.data_version_string ≡ Some b) × (a ≢ b)

@@ -24,7 +24,7 @@ has_ended s = s.ended
 abbrev pub Enters : Header → List ℕ → Entry → List Entry → List Entry → Type 0
 Enters h b e old new = (d : List Entry) × (leaf_of h b e ≡ Ok d) × (new ≡ old ++ d)
 
--- a leaf is refused, for want of memory, or by a fault
+-- a leaf is refused, when out of memory, or by a fault
 abbrev pub IsRefused : Header → List ℕ → Entry → PmtError → Type 0
 IsRefused h b e r = Gives (leaf_of h b e) (Err r)
 
@@ -53,7 +53,7 @@ WalkCauses before now (Some (Ok e)) = Unit {0}
 WalkCauses before now (Some (Err errors.BudgetSpent)) = Unit {0}
 WalkCauses before now (Some (Err e)) = LookUpCauses {A = Entry} before now (Err e)
 
--- a step leaves the count of faults as it is, but for a fault and want of memory
+-- a step leaves the count of faults as it is, but for a fault and running out of memory
 abbrev pub StepStands : ℕ → ℕ → Option Item → Type 0
 StepStands before now None = now ≡ before
 StepStands before now (Some item) = FaultsStand before now item

@@ -44,7 +44,7 @@ impl<B: Backend, C: DirectoryCache + Drop, S: Drop> Drop for PmTilesReader<'_, B
 impl<'a, B: Backend> PmTilesReader<'a, B, NoCache> {
     /// Opens the archive of a backend, to be read without a cache: `ReaderState::open`, and then `PmTilesReader::over`.
     ///
-    /// An error is one that `open` answers: over told bytes exactly their first refusal, want of memory, or
+    /// An error is one that `open` answers: over told bytes exactly their first refusal, running out of memory, or
     /// `Reading(Fault)`, which doesn't come over a backend whose calls don't fail. After an error the backend was read
     /// once, and tells the bytes and version texts that it told; its count of faults didn't fall, and rose where
     /// `Reading(Fault)` came (`rests`). Whoever needs this for a proof calls `open`.
@@ -102,7 +102,7 @@ impl<'a, B: Backend, C: DirectoryCache> PmTilesReader<'a, B, C> {
     /// Opens the archive of a backend, to be read with this cache, which is to hold nothing:
     /// `ReaderState::open`, and then `over`.
     ///
-    /// An error is one that `open` answers: over told bytes exactly their first refusal, want of memory, or
+    /// An error is one that `open` answers: over told bytes exactly their first refusal, running out of memory, or
     /// `Reading(Fault)`, which doesn't come over a backend whose calls don't fail. After an error the backend was read
     /// once, and tells the bytes and version texts that it told; its count of faults didn't fall, and rose where
     /// `Reading(Fault)` came (`rests`). Whoever needs this for a proof calls `open`.

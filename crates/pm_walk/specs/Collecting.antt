@@ -83,14 +83,14 @@ abbrev pub HasRoom : Extent → Option ℕ → Type 0
 HasRoom Within room = Unit {0}
 HasRoom Whole room = is_some room ≡ true
 
--- where it ends for another cause, and not for want of memory, there is room
+-- where it ends for another cause, and not when out of memory, there is room
 abbrev pub StopsWith : Extent → Option ℕ → WalkError → Type 0
 StopsWith k room (Archive errors.OutOfMemory) = Unit {0}
 StopsWith k room TooManyTiles = Unit {0}
 StopsWith k room x = HasRoom k room
 
--- Over told bytes: a walk's refusal is answered, behind all that it comes to before. A fault and want of memory may
--- come in its place, and a wrong number of bytes never does.
+-- Over told bytes: a walk's refusal is answered, behind all that it comes to before. A fault and running out of memory
+-- may come in its place, and a wrong number of bytes never does.
 abbrev pub Refuses : Extent → Walked → List (ℕ × ℕ) → Collected → Collected → WalkError → Type 0
 Refuses k w is old new (Archive errors.OutOfMemory) = Unit {0}
 Refuses k w is old new (Archive (errors.Reading causes.Fault)) = Unit {0}
@@ -129,7 +129,7 @@ StopCauses k before now TooManyTiles = Unit {0}
 StopCauses Within before now x = ⊥
 StopCauses Whole before now x = IsOfRun x
 
--- an error of a walk leaves the count of faults as it is, but for a fault and want of memory
+-- an error of a walk leaves the count of faults as it is, but for a fault and running out of memory
 abbrev pub StandsAtStop : ℕ → ℕ → WalkError → Type 0
 StandsAtStop before now (Archive e) = StandsAtError before now e
 StandsAtStop before now x = now ≡ before

@@ -20,8 +20,8 @@ abbrev pub IsFew : Extent → ℕ → List Entry → Type 0
 IsFew Within most ps = Unit {0}
 IsFew Whole most ps = tile_count ps ≤ most
 
--- Over told bytes: what is collected, or the first refusal. A fault and want of memory may come in its place, and a
--- wrong number of bytes never does.
+-- Over told bytes: what is collected, or the first refusal. A fault and running out of memory may come in its place,
+-- and a wrong number of bytes never does.
 abbrev pub Gathers : Extent → Walked → List (ℕ × ℕ) → ℕ → Result (List Entry) WalkError → Type 0
 Gathers k w is most (Ok ps) = (w.refusal ≡ None) × (ps ≡ pieces k is w.entries) × (tile_count (pieces k is w.entries) ≤ most)
 Gathers k w is most (Err (Archive errors.OutOfMemory)) = Unit {0}

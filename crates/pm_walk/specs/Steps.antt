@@ -10,8 +10,8 @@ use Rattle.pm_walk.specs.Walk.{tile_walk, walked}
 use Rattle.pm_walk.specs.declared.error.WalkError.{WalkError}
 use Rattle.pm_walk.specs.declared.extent.Extent.{Extent}
 
--- told or not: what holds before a step holds behind it, and where it ends for another cause than want of
--- memory or room, there is room
+-- told or not: what holds before a step holds behind it, and where it ends for another cause than running
+-- out of memory or room, there is room
 pub record Kept {A : Type 0} (k : Extent) (told : Option (List ℕ)) (h : Header) (is : List (ℕ × ℕ)) (old new : Collected) (r : Result A WalkError) : Type 0 where
   pub keeps : (most : ℕ) → KeepsTo k is most old → OnOk r (KeepsTo k is most new)
   pub contents : KeepsContents k told h old → OnOk r (KeepsContents k told h new)

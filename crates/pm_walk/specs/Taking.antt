@@ -27,8 +27,8 @@ abbrev pub IsTaken : Option ℕ → Entry → Option (List ℕ) → Type 0
 IsTaken room e None = e.length ≡ 0
 IsTaken room e (Some contents) = (e.length ≢ 0) × IsShallow e × (is_some (taken room e.run_length) ≡ true)
 
--- Over told bytes, which contents they are, and the first refusal. A fault and want of memory may come in the place of
--- both, and a wrong number of bytes never does.
+-- Over told bytes, which contents they are, and the first refusal. A fault and running out of memory may come in the
+-- place of both, and a wrong number of bytes never does.
 abbrev pub Takes : Option ℕ → Header → List ℕ → Entry → Result (Option (List ℕ)) WalkError → Type 0
 Takes room h b e (Ok None) = tile_refusal Whole h b e ≡ None
 Takes room h b e (Ok (Some contents)) = (tile_refusal Whole h b e ≡ None) × (range_of b (h.data_offset + e.offset) e.length ≡ Some contents)

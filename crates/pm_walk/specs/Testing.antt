@@ -7,8 +7,8 @@ use Rattle.pm_walk.specs.declared.error.WalkError.{WalkError}
 use Rattle.pm_walk.specs.declared.error.WalkError.TheVariants.{InvalidTileId, TooDeep}
 use Rattle.pm_walk.specs.declared.extent.TheConstants.{FIRST_TOO_DEEP}
 
--- Over told bytes: a range lies in them, or it passes their end. A fault and want of memory may come in the place of
--- both, and a wrong number of bytes never does.
+-- Over told bytes: a range lies in them, or it passes their end. A fault and running out of memory may come in the
+-- place of both, and a wrong number of bytes never does.
 abbrev pub RangeTests : Option (List ℕ) → Result Unit PmtError → Type 0
 RangeTests range (Ok x) = range ≢ None
 RangeTests range (Err errors.OutOfMemory) = Unit {0}

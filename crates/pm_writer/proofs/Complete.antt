@@ -1,4 +1,4 @@
--- What fits is refused by faults and want of memory alone.
+-- What fits is refused by faults and running out of memory alone.
 use Rattle.pm_writer.proofs.Common.{AddCauses, ArchiveFits, arith, Compression, CreateCauses, Distinct, Err, false, FinishCauses, List, Options, PmtError, PutCauses, refl, ℕ, ◌<◌, ◌^◌, ◌≡◌}
 use Rattle.pm_format.specs.declared.compression.Compression.TheVariants as compression
 use Rattle.pm_format.specs.declared.error.PmtError.TheVariants as errors

@@ -27,7 +27,7 @@ CreateRefusals label (Err _) = ⊥
 
 -- An add: by the label that its bytes would have to be plain under, by whether the writer failed before, by the
 -- data's length, and by whether what the data is taken for fits. A length of 2^32 is refused before anything is
--- read; whether the data ends past u64 may be asked of the medium, so that a fault or want of memory may come in
+-- read; whether the data ends past u64 may be asked of the medium, so that a fault or running out of memory may come in
 -- the place of this answer.
 abbrev pub AddCauses : Compression → Bool → ℕ → Type 0 → ℕ → ℕ → Result Unit PmtError → Type 0
 AddCauses label failed size fits before now (Ok _) = (failed ≡ false) × (label ≡ compression.None) × fits

@@ -5,7 +5,7 @@ use Rattle.byte_media.specs.declared.medium.WriteFault.TheVariants as writes
 use Rattle.pm_format.specs.declared.error.PmtError.TheVariants as errors
 use Rattle.pm_format.specs.declared.error.ReadCause.TheVariants as causes
 
--- a refusal is a fault, which comes only where the count of faults rose, or want of memory
+-- a refusal is a fault, which comes only where the count of faults rose, or running out of memory
 abbrev pub PutCauses : ℕ → ℕ → Result Unit PmtError → Type 0
 PutCauses before now (Ok _) = Unit {0}
 PutCauses before now (Err (errors.Reading causes.Fault)) = Rose before now

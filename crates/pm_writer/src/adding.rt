@@ -148,7 +148,7 @@ impl WriterState {
     }
 
     /// Adds the bytes of the tile with this id as they are. Empty data is no tile: it changes nothing, and neither a
-    /// fault nor want of memory comes.
+    /// fault nor running out of memory comes.
     ///
     /// The data is compared with a content of its digest and length that the medium answers, where there is one, by
     /// one read. A medium that tells its bytes answers what was written, and the data is taken for itself; one that

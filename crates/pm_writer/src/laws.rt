@@ -196,9 +196,9 @@ pub fn places_are_read()
         → places_read (archive o adds) ≡ Some (places_of o adds) }
 {}
 
-/// What fits is refused by a fault of the medium, whose count of faults then rose, and by want of memory alone: the
-/// beginning of a writer whose directories are labelled `None`, an add that fits to a writer that didn't fail, and the
-/// end of an archive of distinct ids that fits.
+/// What fits is refused by a fault of the medium, whose count of faults then rose, and by running out of memory alone:
+/// the beginning of a writer whose directories are labelled `None`, an add that fits to a writer that didn't fail, and
+/// the end of an archive of distinct ids that fits.
 pub fn only_faults_refuse_what_fits()
     ensures start { (label : Compression) (before now : ℕ) (e : PmtError)
         → label ≡ compression.None → CreateCauses {A = Unit {0}} label before now (Err e)

@@ -61,7 +61,7 @@ pub record IsMade (told : Option (List ℕ)) (old new : Tables) (n : ℕ) : Type
   pub said : IfSome told (λ b. IsSaidBy b document)
   pub filled : IsFilled told document (started old) new n
 
--- want of memory, or a fault of the store: the store can't be written
+-- running out of memory, or a fault of the store: the store can't be written
 abbrev pub is_unwritten : ImportError → Bool
 is_unwritten (Store stores.StoreFault) = true
 is_unwritten OutOfMemory = true
@@ -85,7 +85,7 @@ pub record IsOwed (most : ℕ) (told : Option (List ℕ)) (tells : Bool) (store 
   pub is_said : IfSome told (λ b. IsSaidAs b said)
   pub due : IsDue said most told tells (started store) answer
 
--- want of memory, or a fault of the archive or the store
+-- running out of memory, or a fault of the archive or the store
 abbrev pub IsFree : Result ℕ ImportError → Type 0
 IsFree (Ok n) = ⊥
 IsFree (Err e) = is_free e ≡ true

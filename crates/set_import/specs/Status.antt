@@ -5,7 +5,7 @@ use Rattle.pm_format.specs.Status.{archive_status}
 use Rattle.pm_format.specs.declared.status.TheConstants.{DONE, REFUSED, FAULT, OUT_OF_MEMORY}
 use Rattle.set_import.specs.Common.{Archive, ImportError, OutOfMemory, Store}
 
--- a refusal that the failing of the archive or the store brought, and want of memory, have their own
+-- a refusal that the failing of the archive or the store brought, and running out of memory, have their own
 abbrev pub status_of : Result ℕ ImportError → ℕ
 status_of (Ok n) = DONE
 status_of (Err (Archive e)) = archive_status e

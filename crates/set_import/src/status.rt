@@ -6,7 +6,7 @@ use mb_store::MbtError;
 use pm_format::{archive_status, status};
 use tile_import::ImportError;
 
-/// The status that a program ends with by the answer of `import_as_said`: 0 for Ok, 7 for want of memory, 6 where the
+/// The status that a program ends with by the answer of `import_as_said`: 0 for Ok, 7 when out of memory, 6 where the
 /// archive or the store failed, and 1 for any other refusal.
 pub fn import_status(answer: &Result<u64, ImportError>) -> u8
     ensures { result ≡ status_of answer.now }

@@ -70,7 +70,8 @@ object_in text = option_and_then as_object (read text)
 abbrev pub IsDocumentOf : Header → List ℕ → TileJson → Type 0
 IsDocumentOf h text t = (ms : Members) × (object_in text ≡ Some ms) × IsOfMembers h ms t
 
--- it is given, or the text is refused exactly where it is no object; want of memory may come in the place of both
+-- it is given, or the text is refused exactly where it is no object; running out of memory may
+-- come in the place of both
 abbrev pub IsAnswered : Header → List ℕ → Result TileJson DocumentError → Type 0
 IsAnswered h text (Ok t) = IsDocumentOf h text t
 IsAnswered h text (Err errors.Invalid) = object_in text ≡ None

@@ -73,7 +73,7 @@ module _ (o : Options) (due : Option (Result State ConvertError)) where
     set_leaves coords (Err OutOfMemory) old new empty c h = parts OutOfMemory coords old new empty h
     set_leaves coords (Err _) old new empty c h = absurd c
 
--- a store's fault, or want of memory, is no refusal of the set
+-- a store's fault, or running out of memory, is no refusal of the set
 pub store_refuses : (due : Option (Result State ConvertError)) (e : ConvertError) → IsStoreError e → Refuses due e
 store_refuses due (StoreFault place) h = tt
 store_refuses due OutOfMemory h = tt

@@ -49,7 +49,7 @@ answer_more (Some b) again coords i c tiles more tile same low is push so answer
     let front : take (i + 1) coords ≡ take i coords ++ c ∷ [] = take_more coords i c low ∙ ap (λ z. take i coords ++ z ∷ []) (sym is) in
     push ∙ ap (λ z. z ++ tile ∷ []) (so o formed) ∙ ap (λ z. map at (take i coords) ++ z ∷ []) here ∙ sym (map-append at (take i coords) (c ∷ [])) ∙ ap (map at) (sym front)
 
--- a refusal for want of memory or a fault answers as it may
+-- a refusal when out of memory or a fault answers as it may
 hindered_answers : (told : Option (List ℕ)) (coords : List Coord) (e : PmtError) (r : Result (List (Option (List ℕ))) PmtError) → IfSome told (λ b. (o : Options) → WellFormed b o true → IsHindered e) → IsErrAnd r (λ x. x ≡ e)
     → IfSome told (λ b. (o : Options) → WellFormed b o true → ReadsAnswers b coords r)
 hindered_answers None coords e r h is = tt

@@ -42,7 +42,7 @@ added_to tiles adds i a far at filled =
     ap (λ x. add_to (take i (shown tiles adds)) x.0 x.1) (sym (shown_at tiles adds i a far at))
     ∙ added_at (shown tiles adds) i (a.id, bytes_at tiles a.index) (far_shown tiles adds i far) (filled i (a.id, bytes_at tiles a.index) (far_shown tiles adds i far))
 
--- a refused add, whose data fits, is a fault or want of memory
+-- a refused add, whose data fits, is a fault or running out of memory
 pub add_refused : {A : Type 0} (size : ℕ) (fits : Type 0) (start before now : ℕ) (failed : Bool) (e : PmtError) (r : Result A PmtError) → failed ≡ false → fits → start ≤ before → AddCauses compression.None failed size fits before now (Err e) → IsErrAnd r (λ x. x ≡ e) → WriteCauses {A = A} start now r
 add_refused size fits start before now failed e (Ok x) alive fit order cause is = tt
 add_refused size fits start before now failed e (Err x) alive fit order cause is = subst IsWriteError (sym is) (by_case e cause)
@@ -58,7 +58,7 @@ add_refused size fits start before now failed e (Err x) alive fit order cause is
     by_case errors.OutOfMemory c = tt
     by_case _ c = absurd c
 
--- a finished archive of few adds: a fault, or want of memory
+-- a finished archive of few adds: a fault, or running out of memory
 pub finish_refused : {A : Type 0} (o : Options) (adds : List (ℕ × List ℕ)) (start before now : ℕ) (failed : Bool) (r : Result A PmtError) → failed ≡ false → CanBeWritten o adds → start ≤ before → FinishCauses o adds failed before now r → WriteCauses start now r
 finish_refused o adds start before now failed (Ok x) alive can order c = tt
 finish_refused o adds start before now failed (Err errors.Failed) alive can order c = absurd (cc)

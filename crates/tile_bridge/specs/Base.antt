@@ -29,7 +29,7 @@ abbrev pub IsKeptOrPatched : ConvertOptions → Bool → List Bool → List Tabl
 IsKeptOrPatched o base_tells tells told old new = (new ≡ old) ⊎ (base_tells ≡ true → IsBaseAfter o tells told old new)
 
 -- What the base holds afterwards, where it tells: all patches after Ok, none after a refusal and a store's fault, and
--- all or none of them after the medium's fault, `ReadBack` and want of memory.
+-- all or none of them after the medium's fault, `ReadBack` and running out of memory.
 abbrev pub BaseLeaves : ConvertOptions → Bool → List Bool → List Tables → List Coord → Result ConvertReport ConvertError → Option (List ℕ) → Tables → Tables → Type 0
 BaseLeaves o base_tells tells told coords (Ok r) medium old new = base_tells ≡ true → IsBaseDone o tells told coords r medium old new
 BaseLeaves o base_tells tells told coords (Err MediumFault) medium old new = IsKeptOrPatched o base_tells tells told old new

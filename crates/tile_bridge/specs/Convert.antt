@@ -48,8 +48,8 @@ IsEmpty told = IfSome told (λ bytes. bytes ≡ [])
 abbrev pub IsPlain : Options → Type 0
 IsPlain o = o.internal_compression ≡ compression.None
 
--- When each answer comes. Where all tells, the answers but want of memory and the faults rule each other out, so each
--- comes exactly where its line says.
+-- When each answer comes. Where all tells, the answers but running out of memory and the faults rule each other out, so
+-- each comes exactly where its line says.
 abbrev pub ConvertCauses : Options → Option (Result State ConvertError) → Option (List ℕ) → Result ConvertReport ConvertError → Type 0
 ConvertCauses o due told (Ok r) = IsEmpty told × IsPlain o × IfSome due IsOk
 ConvertCauses o due told (Err (MediumNotEmpty n)) = (0 < n) × IfSome told (λ bytes. n ≡ length bytes)

@@ -28,14 +28,15 @@ IsReadBack (errors.Reading causes.PastEnd) = Unit {0}
 IsReadBack (errors.UnexpectedNumberOfBytesReturned asked got) = asked ≢ got
 IsReadBack e = IsOpenRefusal e
 
--- Told or not: a refusal is one of these, want of memory, or a fault, which comes only where the count of faults rose.
+-- Told or not: a refusal is one of these, running out of memory, or a fault, which comes only where
+-- the count of faults rose.
 abbrev pub ReadBackCauses : {A : Type 0} → ℕ → ℕ → Result A PmtError → Type 0
 ReadBackCauses before now (Ok _) = Unit {0}
 ReadBackCauses before now (Err errors.OutOfMemory) = Unit {0}
 ReadBackCauses before now (Err (errors.Reading causes.Fault)) = Rose before now
 ReadBackCauses before now (Err e) = IsReadBack e
 
--- only want of memory and a fault come in place of an answer
+-- only running out of memory and a fault come in place of an answer
 abbrev pub IsHindered : PmtError → Type 0
 IsHindered errors.OutOfMemory = Unit {0}
 IsHindered (errors.Reading causes.Fault) = Unit {0}

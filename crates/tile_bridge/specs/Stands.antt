@@ -3,7 +3,7 @@ use Rattle.std.specs.Prelude.{ℕ, ◌≡◌, ◌≢◌, List, slice_index, Resu
 use Rattle.tile_bridge.specs.declared.error.ConvertError.{ConvertError}
 use Rattle.tile_bridge.specs.declared.error.ConvertError.TheVariants.{MediumFault, OutOfMemory, Store, StoreFault}
 
--- an error leaves that of the medium as it is, but for a fault of the medium and want of memory
+-- an error leaves that of the medium as it is, but for a fault of the medium and running out of memory
 abbrev pub MediumStandsAt : ℕ → ℕ → ConvertError → Type 0
 MediumStandsAt before now MediumFault = Unit {0}
 MediumStandsAt before now OutOfMemory = Unit {0}

@@ -14,7 +14,7 @@ IsDue due s = IfSome due (λ d. d ≡ Ok s)
 abbrev pub IsRefused : Option (Result State ConvertError) → ConvertError → Type 0
 IsRefused due e = IfSome due (λ d. d ≡ Err e)
 
--- a refusal of the set is the one that is due, and no other comes but a store's fault and want of memory
+-- a refusal of the set is the one that is due, and no other comes but a store's fault and running out of memory
 abbrev pub Refuses : Option (Result State ConvertError) → ConvertError → Type 0
 Refuses due (Store place e) = IsRefused due (Store place e) × (is_free e ≡ false)
 Refuses due IndexEntryOverflow = IsRefused due IndexEntryOverflow
@@ -63,7 +63,7 @@ pub record HasFailed {P : Type 0} (tell : P → Bool) (tables : P → Tables) (f
   pub read : AreOnlyRead tell tables failed calm old now
   pub rose : RoseAt place (0 ∷ map failed old) (0 ∷ map failed now)
 
--- a store's fault, or want of memory
+-- a store's fault, or running out of memory
 abbrev pub IsStoreError : ConvertError → Type 0
 IsStoreError (StoreFault place) = Unit {0}
 IsStoreError OutOfMemory = Unit {0}

@@ -15,7 +15,7 @@ pub record CanBeWritten (o : Options) (adds : List (ℕ × List ℕ)) : Type 0 w
   pub filled : All (λ a. a.1 ≢ []) adds
   pub few : AreFew o adds
 
--- a refusal is a fault, which comes only where the count of faults rose, or want of memory
+-- a refusal is a fault, which comes only where the count of faults rose, or running out of memory
 abbrev pub WriteCauses : {A : Type 0} → ℕ → ℕ → Result A PmtError → Type 0
 WriteCauses before now (Ok _) = Unit {0}
 WriteCauses before now (Err (errors.Reading causes.Fault)) = Rose before now

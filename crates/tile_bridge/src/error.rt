@@ -23,7 +23,7 @@ pub enum ConvertError {
     Store {
         /// 0 for the base, k for the k-th patch.
         place: u64,
-        /// Why: never a store's fault, and never want of memory.
+        /// Why: never a store's fault, and never running out of memory.
         error: MbtError,
     },
     /// A tile has 2^32 bytes or more, there are 2^32 tiles or more, or their bytes are 2^60 or more.

@@ -61,7 +61,7 @@ fn read_answer<B: Backend>(
 /// held once they are read.
 ///
 /// Over a well-formed archive that the backend tells, no refusal comes but `Reading(Fault)`, which comes only
-/// where the count of faults rose, and want of memory. The opening is one read, and so is each answer of at
+/// where the count of faults rose, and running out of memory. The opening is one read, and so is each answer of at
 /// least one byte at least.
 pub fn read_answers<B: Backend>(
     alloc: Global,

@@ -47,7 +47,7 @@ pub fn source_status(error: &PmtError) -> u8
     }
 }
 
-/// The status for a part of an archive that isn't extracted: 6 where the file that is written failed, 7 for want of
+/// The status for a part of an archive that isn't extracted: 6 where the file that is written failed, 7 when out of
 /// memory, that of the refusal of the archive, and 1 for the others.
 pub fn part_status(error: &ExtractError) -> u8
     ensures { result ≡ part_status error.now }

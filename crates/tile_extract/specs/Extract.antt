@@ -174,7 +174,7 @@ IntoLeaves source part most result new = IfSome new (IntoBytes source part most 
 abbrev pub PartLeaves : Option (List ℕ) → TilePart → ℕ → Result ArchivePlaces ExtractError → Option (List ℕ) → Option (List ℕ) → Type 0
 PartLeaves source part most result old new = BothTold (LeavesBytes source part most result) old new
 
--- Over told bytes: a walk's refusal is answered. A fault and want of memory may come in its place, and a wrong
+-- Over told bytes: a walk's refusal is answered. A fault and running out of memory may come in its place, and a wrong
 -- number of bytes never does.
 abbrev pub Refuses : Walked → PmtError → Type 0
 Refuses w errors.OutOfMemory = Unit {0}

@@ -4,7 +4,7 @@ use Rattle.pm_format.specs.Faults.{StandsAtError}
 use Rattle.tile_extract.specs.declared.error.ExtractError.{ExtractError}
 use Rattle.tile_extract.specs.declared.error.ExtractError.TheVariants.{Archive, MediumFault, OutOfMemory}
 
--- an error leaves that of the source as it is, but for a fault of the source and want of memory
+-- an error leaves that of the source as it is, but for a fault of the source and running out of memory
 abbrev pub SourceStandsAt : ℕ → ℕ → ExtractError → Type 0
 SourceStandsAt before now (Archive e) = StandsAtError before now e
 SourceStandsAt before now OutOfMemory = Unit {0}
@@ -14,7 +14,7 @@ abbrev pub SourceStands : {A : Type 0} → ℕ → ℕ → Result A ExtractError
 SourceStands before now (Ok x) = now ≡ before
 SourceStands before now (Err e) = SourceStandsAt before now e
 
--- an error leaves that of the medium as it is, but for a fault of the medium and want of memory
+-- an error leaves that of the medium as it is, but for a fault of the medium and running out of memory
 abbrev pub MediumStandsAt : ℕ → ℕ → ExtractError → Type 0
 MediumStandsAt before now MediumFault = Unit {0}
 MediumStandsAt before now OutOfMemory = Unit {0}

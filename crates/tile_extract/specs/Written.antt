@@ -74,7 +74,7 @@ Rises low (a ∷ adds) = (low ≤ a.0) × Rises (a.0 + 1) adds
 abbrev pub EndsBy : Adds → ℕ → Type 0
 EndsBy adds end = (more : Adds) → Rises end more → Rises 0 (adds ++ more)
 
--- What adding the same bytes at ids leaves, each taken for some data. A fault and want of memory may come in
+-- What adding the same bytes at ids leaves, each taken for some data. A fault and running out of memory may come in
 -- the place of each answer.
 abbrev pub Puts : Options → List ℕ → Adds → List ℕ → Option (List ℕ) → WriterState → Result Unit ExtractError → Type 0
 Puts o bytes done ids told s (Ok x) = (more : Adds) × PutsAll (Took told) o bytes done ids (Ok more) × Writes o told s more

@@ -16,7 +16,7 @@ pub enum ExtractError {
     #[error("medium not empty {length}")]
     MediumNotEmpty { length: u64 },
     /// The source doesn't open, or has no metadata, or a directory that is met or a tile is refused: why. It
-    /// is never want of memory.
+    /// is never running out of memory.
     #[error("archive: {0}")]
     Archive(PmtError),
     /// There are more tiles than the limit, which is this number.

@@ -81,7 +81,7 @@ impl HashAlgorithm {
     }
 
     /// The digest of these bytes as text: upper-case hexadecimal, decimal for `Fnv1aDecimal`. It fails
-    /// only for want of memory.
+    /// only by running out of memory.
     pub fn hash(self, alloc: Global, bytes: &[u8]) -> Result<TextVal, OutOfMemory>
         ensures { IfOk result (λ text. text ≡ digest self bytes.now) }
     {

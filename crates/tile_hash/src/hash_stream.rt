@@ -74,7 +74,7 @@ impl HashStream {
     }
 
     /// The digest of all pieces together, the text that `HashAlgorithm::hash` gives these bytes. It fails
-    /// only for want of memory.
+    /// only by running out of memory.
     pub fn finish(self, alloc: Global) -> Result<TextVal, OutOfMemory>
         ensures { (a : HashAlgorithm) (bytes : List ℕ) → HasTaken a self bytes
             → IfOk result (λ text. text ≡ digest a bytes) }

@@ -20,7 +20,7 @@ unfoldable pub header_fault : List ℕ → Opened → Option HeaderFault
 header_fault b o = option_or (tiles_fault o.0 (report_of b o) (ids_of b o) (map part_of (tiles_of b o))) (option_map Metadata (metadata_fault (metadata_read b o.0)))
 
 -- Over told bytes: they are sound and the header is right, they are sound and this is the first thing that it says
--- wrong, or they aren't sound. A fault and want of memory may come in the place of each.
+-- wrong, or they aren't sound. A fault and running out of memory may come in the place of each.
 abbrev pub HeaderAnswers : List ℕ → Result VerifyReport HeaderError → Type 0
 HeaderAnswers b (Ok r) = Answers b (Ok r) × ((o : Opened) → opened b ≡ Ok o → header_fault b o ≡ None)
 HeaderAnswers b (Err (Unsound e)) = Answers b (Err e)
@@ -31,7 +31,7 @@ abbrev pub HeaderCauses : ℕ → ℕ → Result VerifyReport HeaderError → Ty
 HeaderCauses before now (Err (Unsound e)) = Causes {A = Unit {0}} before now (Err e)
 HeaderCauses before now result = Unit {0}
 
--- told or not: the count of faults stands, but where a fault or want of memory is answered
+-- told or not: the count of faults stands, but where a fault or running out of memory is answered
 abbrev pub HeaderStands : ℕ → ℕ → Result VerifyReport HeaderError → Type 0
 HeaderStands before now (Err (Unsound e)) = StandsUnsound before now e
 HeaderStands before now result = now ≡ before

@@ -23,7 +23,7 @@ unfoldable pub metadata_fault : Result (List ℕ) PmtError → Option MetadataFa
 metadata_fault (Err e) = Some PastEnd
 metadata_fault (Ok text) = if is_utf8 text then object_fault (read text) else Some NotUtf8
 
--- what the refusal of metadata stands for; there is no other but want of memory
+-- what the refusal of metadata stands for; there is no other but running out of memory
 abbrev pub unread : PmtError → Result (Option MetadataFault) VerifyError
 unread errors.InvalidMetadataUtf8Encoding = Ok (Some NotUtf8)
 unread (errors.Reading causes.PastEnd) = Ok (Some PastEnd)
@@ -31,7 +31,7 @@ unread (errors.Reading causes.Fault) = Err verify.Fault
 unread (errors.UnexpectedNumberOfBytesReturned asked got) = Err (verify.Short asked got)
 unread e = Err verify.OutOfMemory
 
--- Over told bytes: what is due is answered. A fault and want of memory may come in its place.
+-- Over told bytes: what is due is answered. A fault and running out of memory may come in its place.
 abbrev pub MetadataTests : Option MetadataFault → Result (Option MetadataFault) VerifyError → Type 0
 MetadataTests due (Ok found) = found ≡ due
 MetadataTests due (Err verify.Fault) = Unit {0}

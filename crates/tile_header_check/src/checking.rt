@@ -35,10 +35,10 @@ fn test_tiles(alloc: Global, header: &Header, met: Met) -> Result<VerifyReport, 
 /// each unless the header says 0, which is unknown; exactly the least and the greatest zoom, where there are tiles;
 /// that contents are clustered, where it says so; and where metadata is, which has to be an object of JSON.
 ///
-/// After Ok it is the report of `verify`. `Unsound` comes exactly where `verify` refuses, but for faults and want of
-/// memory, which come for the metadata too. `Header` comes exactly where the archive is sound and one of these tests
-/// fails, with the first that does, in the order above. The archive is walked once, and the metadata is read behind
-/// that.
+/// After Ok it is the report of `verify`. `Unsound` comes exactly where `verify` refuses, but for faults and
+/// running out of memory, which come for the metadata too. `Header` comes exactly where the archive is sound and
+/// one of these tests fails, with the first that does, in the order above. The archive is walked once, and the
+/// metadata is read behind that.
 pub fn check_header<B: Backend>(alloc: Global, source: &mut B) -> Result<VerifyReport, HeaderError>
     ensures answer { IfSome (B.told source.old) (λ b. HeaderAnswers b result) }
     ensures causes { HeaderCauses (B.faults source.old) (B.faults source.new) result }

@@ -26,7 +26,7 @@ too_many most w many = ap (λ b. if b then option_map (of_walk_error most) w.ref
 due : (most : ℕ) (w : Walked) (x : WalkError) → w.refusal ≡ Some x → tile_count (full w.entries) ≤ most → walk_refusal most w ≡ Some (of_walk_error most x)
 due most w x is few = by_few most w few ∙ ap (option_map (of_walk_error most)) is
 
--- want of memory
+-- running out of memory
 pub want_read : (told : Option (List ℕ)) (most : ℕ) → IfSome told (λ b. Reads most b (Err OutOfMemory))
 want_read None most = tt
 want_read (Some b) most = λ free. absurd (true≢false free)

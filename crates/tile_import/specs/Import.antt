@@ -36,7 +36,7 @@ abbrev pub import_due : Result State MbtError → Result TileSet ImportError →
 import_due (Ok s) found = editable_due s found (is_editable s.layout)
 import_due (Err e) found = Err (Store e)
 
--- an answer is the one that is due, unless memory was wanting, or the archive or the store failed
+-- an answer is the one that is due, unless memory ran out, or the archive or the store failed
 abbrev pub Answers : Result ℕ ImportError → Result ℕ ImportError → Type 0
 Answers due (Ok n) = due ≡ Ok n
 Answers due (Err e) = is_free e ≡ false → due ≡ Err e

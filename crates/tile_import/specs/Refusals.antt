@@ -40,14 +40,14 @@ abbrev pub IsRead : ℕ → List ℕ → Result TileSet ImportError → Type 0
 IsRead most b (Ok tiles) = (archive_refusal most b ≡ None) × HasTilesOf b tiles
 IsRead most b (Err e) = archive_refusal most b ≡ Some e
 
--- want of memory, or a fault: no refusal of the archive or the set
+-- running out of memory, or a fault: no refusal of the archive or the set
 abbrev pub is_free : ImportError → Bool
 is_free OutOfMemory = true
 is_free (Archive (errors.Reading causes.Fault)) = true
 is_free (Store stores.StoreFault) = true
 is_free e = false
 
--- the tiles that were read, or the first refusal, unless memory was wanting or the archive failed
+-- the tiles that were read, or the first refusal, unless memory ran out or the archive failed
 abbrev pub Reads : ℕ → List ℕ → Result TileSet ImportError → Type 0
 Reads most b (Ok tiles) = IsRead most b (Ok tiles)
 Reads most b (Err e) = is_free e ≡ false → archive_refusal most b ≡ Some e

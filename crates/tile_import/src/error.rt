@@ -10,10 +10,10 @@ use tile_ids::TileCoord;
 /// Why an archive isn't imported into a set.
 #[derive(Debug, Drop, Error)]
 pub enum ImportError {
-    /// The archive doesn't open, or a directory or an entry of it is refused: why. It is never want of memory.
+    /// The archive doesn't open, or a directory or an entry of it is refused: why. It is never running out of memory.
     #[error("archive: {0}")]
     Archive(PmtError),
-    /// The set doesn't load, or doesn't take the tiles: why. It is never want of memory.
+    /// The set doesn't load, or doesn't take the tiles: why. It is never running out of memory.
     #[error("store: {0}")]
     Store(MbtError),
     /// A tile entry has an id above that of the last tile of zoom 31: its first such id.

@@ -3,7 +3,7 @@ use Rattle.std.specs.Prelude.{◌≡◌, Option, Some, None, Result, Ok, Err}
 use Rattle.tile_json.specs.declared.error.DocumentError.{DocumentError}
 use Rattle.tile_json.specs.declared.error.DocumentError.TheVariants.{Invalid, OutOfMemory}
 
--- what is wanted, refused exactly where nothing is; want of memory may come in its place
+-- what is wanted, refused exactly where nothing is; running out of memory may come in its place
 abbrev pub Answers : {A : Type 0} → Option A → Result A DocumentError → Type 0
 Answers wanted (Ok x) = wanted ≡ Some x
 Answers wanted (Err Invalid) = wanted ≡ None

@@ -74,7 +74,7 @@ abbrev pub IsReadFor : List ℕ → Option Request → Bounded (List ℕ) → Ty
 IsReadFor b None tiles = ⊥
 IsReadFor b (Some r) tiles = (is_read (Some r) tiles ≡ true) × IsThere (archive_tile b r.id)
 
--- no error but want of memory is answered
+-- no error but running out of memory is answered
 abbrev pub IsWanting : {A : Type 0} → Result A ServeError → Type 0
 IsWanting (Ok x) = Unit {0}
 IsWanting (Err OutOfMemory) = Unit {0}
@@ -90,7 +90,7 @@ abbrev pub IsUnmodified : {A : Type 0} → Result A ServeError → Type 0
 IsUnmodified (Err (Modified a b)) = ⊥
 IsUnmodified _ = Unit {0}
 
--- What is held after a line: after a reply exactly what the reply leaves, and want of memory may leave it
+-- What is held after a line: after a reply exactly what the reply leaves, and running out of memory may leave it
 -- or what was held before.
 abbrev pub LeavesTiles : List ℕ → Option Request → Bounded (List ℕ) → Bounded (List ℕ) → Result (List ℕ) ServeError → Type 0
 LeavesTiles b asked old new (Ok text) = new ≡ tiles_after b asked old
@@ -107,14 +107,14 @@ abbrev pub opening_error : PmtError → ServeError
 opening_error errors.OutOfMemory = OutOfMemory
 opening_error e = Opening e
 
--- Opening, over told bytes: their first refusal. A fault and want of memory may come in its place.
+-- Opening, over told bytes: their first refusal. A fault and running out of memory may come in its place.
 abbrev pub RefusesOpening : {A : Type 0} → Result A PmtError → ServeError → Type 0
 RefusesOpening wanted (Opening (errors.Reading causes.Fault)) = Unit {0}
 RefusesOpening wanted (Opening e) = wanted ≡ Err e
 RefusesOpening wanted OutOfMemory = Unit {0}
 RefusesOpening wanted e = ⊥
 
--- Told or not: the refusal of opening, a fault only where the count of faults rose, or want of memory.
+-- Told or not: the refusal of opening, a fault only where the count of faults rose, or running out of memory.
 abbrev pub OpeningCauses : ℕ → ℕ → ServeError → Type 0
 OpeningCauses before now (Opening (errors.Reading causes.Fault)) = Rose before now
 OpeningCauses before now (Opening e) = IsOpenRefusal e

@@ -1,5 +1,5 @@
 -- What a server leaves of the counts of faults of its source, its input and its output: each stands, but for a fault of
--- the object and want of memory.
+-- the object and running out of memory.
 use Rattle.std.specs.Prelude.{◌≡◌, ℕ, Result, Ok, Err}
 use Rattle.pm_format.specs.Faults.{StandsAtError}
 use Rattle.tile_serve.specs.declared.error.ServeError.{ServeError}

@@ -78,12 +78,12 @@ RunTexts texts before now (Refused (serve.Modified a b)) = (a ≢ b)
     × IfSome texts (λ text. (first : ℕ) × Grew before first 1 × (first ≤ now) × (text first ≡ Some a) × (text now ≡ Some b))
 RunTexts texts before now _ = Unit {0}
 
--- why a line isn't answered, told or not: it is never want of memory
+-- why a line isn't answered, told or not: it is never running out of memory
 abbrev pub RefusalCauses : Option (List ℕ) → ℕ → ℕ → ServeError → Type 0
 RefusalCauses told before now serve.OutOfMemory = ⊥
 RefusalCauses told before now e = Causes {A = Unit {0}} told before now (Err e)
 
--- What lines end in. The output's fault has its cause by its count, and want of memory is free.
+-- What lines end in. The output's fault has its cause by its count, and running out of memory is free.
 abbrev pub LinesEnd : Option (List ℕ) → ℕ → ℕ → ServeOutcome → Type 0
 LinesEnd told before now Done = Unit {0}
 LinesEnd told before now (Refused e) = RefusalCauses told before now e

@@ -32,7 +32,7 @@ is_held old t = is_some (lookup (nat_eq t) old.pairs)
 abbrev pub tiles_asked : Bounded (List ℕ) → ℕ → Found → Bounded (List ℕ)
 tiles_asked old t found = if is_held old t then used old t else with_found old t found
 
--- What is held after an id was looked for: after want of memory a held tile may be the latest used, and another
+-- What is held after an id was looked for: after running out of memory a held tile may be the latest used, and another
 -- error leaves all as it was.
 abbrev pub LeavesFound : Bounded (List ℕ) → Bounded (List ℕ) → ℕ → Result Found ServeError → Type 0
 LeavesFound old new t (Ok found) = new ≡ tiles_asked old t found

@@ -40,10 +40,10 @@ impl<'a, B: Backend> TileServer<'a, B> {
     /// Opens the archive of a backend, by `ServerState::open`. The limits are to allow a directory and a tile;
     /// nothing is reserved for them.
     ///
-    /// An error is one that `ServerState::open` answers: over told bytes exactly their first refusal, want of memory,
-    /// or a fault in `Opening`, which doesn't come over a backend whose calls don't fail. After an error the backend
-    /// was read once, and tells the bytes and version texts that it told; its count of faults didn't fall, and rose
-    /// where a fault came in `Opening` (`rests`). Whoever needs this for a proof calls `ServerState::open`.
+    /// An error is one that `ServerState::open` answers: over told bytes exactly their first refusal, running out of
+    /// memory, or a fault in `Opening`, which doesn't come over a backend whose calls don't fail. After an error the
+    /// backend was read once, and tells the bytes and version texts that it told; its count of faults didn't fall, and
+    /// rose where a fault came in `Opening` (`rests`). Whoever needs this for a proof calls `ServerState::open`.
     pub fn open(
         alloc: Global,
         backend: &'a mut B,

@@ -95,9 +95,9 @@ fn attempt<B: Backend, I: Source, O: Sink>(
 /// archive of the backend, and writes the reply to each line before it answers the next one.
 ///
 /// `Usage`, `InputFault`, `InputTooLong` and `Refused` with `Opening` come before anything is written. `Refused` has
-/// the first error of opening or answering other than want of memory, and then the replies to the lines before are
-/// written. `Modified` has the version texts of the first and of the last read. After `OutputFault` and `OutOfMemory` a
-/// front of all replies is written.
+/// the first error of opening or answering other than running out of memory, and then the replies to the lines before
+/// are written. `Modified` has the version texts of the first and of the last read. After `OutputFault` and
+/// `OutOfMemory` a front of all replies is written.
 pub fn run_serve<B: Backend, I: Source, O: Sink>(
     alloc: Global,
     words: &[TextVal],

@@ -39,8 +39,8 @@ pub record IsMarkedSet (t : Tables) (m : MarkedSet) : Type 0 where
   pub due : state_of t ≡ Ok state
   pub held : IsMarkedAs state m
 
--- what is due of tables that are read for their marks: the marked set, or the refusal of loading, unless memory
--- or the store was wanting
+-- what is due of tables that are read for their marks: the marked set, or the refusal of loading, unless memory ran out
+-- or the store failed
 abbrev pub IsMarked : Tables → Result MarkedSet MbtError → Type 0
 IsMarked t (Ok m) = IsMarkedSet t m
 IsMarked t (Err e) = is_free e ≡ false → state_of t ≡ Err e

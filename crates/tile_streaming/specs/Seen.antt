@@ -27,8 +27,8 @@ pub record IsMarkedOf (kind : MbtType) (metadata contents rows : List (List Cell
   pub names : m.names ≡ names_of metadata
   pub marks : AreMarksOf (from_entries (filter_map (tile_in kind contents) rows)) m.marks.items
 
--- the marked set of rows of metadata, of contents and of tiles, or their first refusal, unless memory
--- or the store was wanting
+-- the marked set of rows of metadata, of contents and of tiles, or their first refusal, unless memory ran out
+-- or the store failed
 abbrev pub AreMarked : MbtType → List (List Cell) → List (List Cell) → List (List Cell) → Result MarkedSet MbtError → Type 0
 AreMarked layout metadata contents rows (Ok m) = IsMarkedOf layout metadata contents rows m
 AreMarked layout metadata contents rows (Err e) = is_free e ≡ false → first_refusal (row_refusals layout metadata contents rows) ≡ Some e

@@ -17,8 +17,8 @@ pub record IsMetOf (b : List ℕ) (o : Opened) (met : Met) : Type 0 where
   pub tiles : met.tiles.items ≡ map part_of (tiles_of b o)
   pub ids : met.ids ≡ ids_of b o
 
--- Over told bytes that open: no part is broken and all was met, or the first break is this one. A fault and want of
--- memory may come in its place.
+-- Over told bytes that open: no part is broken and all was met, or the first break is this one. A fault and running
+-- out of memory may come in its place.
 abbrev pub MeetsAll : List ℕ → Opened → Result Met VerifyError → Type 0
 MeetsAll b o (Ok met) = ((walk_of b o).broken ≡ None) × IsMetOf b o met
 MeetsAll b o (Err (Opening e)) = ⊥
@@ -28,7 +28,7 @@ MeetsAll b o (Err (Short asked got)) = ⊥
 MeetsAll b o (Err OutOfMemory) = Unit {0}
 
 -- Over told bytes: they are sound and the report is theirs, they don't open, or the first break is this one. A fault
--- and want of memory may come in its place.
+-- and running out of memory may come in its place.
 abbrev pub Answers : List ℕ → Result VerifyReport VerifyError → Type 0
 Answers b (Ok r) = Sound b × ((o : Opened) → opened b ≡ Ok o → r ≡ report_of b o)
 Answers b (Err (Opening (errors.Reading causes.Fault))) = Unit {0}
@@ -48,8 +48,8 @@ Causes before now (Err Fault) = Rose before now
 Causes before now (Err (Short asked got)) = asked ≢ got
 Causes before now (Err OutOfMemory) = Unit {0}
 
--- An error leaves the count of faults as it is, but for a fault and want of memory: also where a part is broken, or the
--- archive doesn't open.
+-- An error leaves the count of faults as it is, but for a fault and running out of memory: also where a part is broken,
+-- or the archive doesn't open.
 abbrev pub StandsUnsound : ℕ → ℕ → VerifyError → Type 0
 StandsUnsound before now (Opening e) = StandsAtError before now e
 StandsUnsound before now (Broken at why directories) = now ≡ before

@@ -21,8 +21,8 @@ IsBreak w before (Err (Short asked got)) = ⊥
 IsBreak w before (Err (Opening e)) = ⊥
 IsBreak w before _ = Unit {0}
 
--- Over told bytes: a walk is intact and its tile entries are met, or its break is answered. A fault and want of
--- memory may come in its place.
+-- Over told bytes: a walk is intact and its tile entries are met, or its break is answered. A fault and running
+-- out of memory may come in its place.
 abbrev pub Walks : Walked → List Entry → Met → Met → Result Unit VerifyError → Type 0
 Walks w es old new (Ok x) = (w.broken ≡ None) × Adds old w.directories es new
 Walks w es old new (Err e) = IsBreak w old.directories (Err e)

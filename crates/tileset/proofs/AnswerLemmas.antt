@@ -38,7 +38,7 @@ asked_answer given asked o words h = subst (λ w. Gives w o) (sym (ap (λ c. ans
 pub exact_by : (given : Given) (s : Script) (o : Outcome) → IsScript given s → Gives (answer_script (Ok s) given.medium) o → Gives (answer given) o
 exact_by given s o is h = asked_answer given is.asked o is.words (script_answer is.asked given.input given.medium s o is.script h)
 
--- a fault and want of memory may come in place of any answer
+-- a fault and running out of memory may come in place of any answer
 yields : (wanted : Option Outcome) (o : Outcome) → Yields o → Gives wanted o
 yields None o y = tt
 yields (Some w) o y = inr y

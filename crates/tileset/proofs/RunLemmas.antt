@@ -39,7 +39,7 @@ untold_before None new P h none = refl
 untold_before (Some a) None P h none = absurd h
 untold_before (Some a) (Some b) P h none = absurd (cc)
 
--- the report is refused by a fault or want of memory, or over a medium that tells nothing
+-- the report is refused by a fault or running out of memory, or over a medium that tells nothing
 reported_by : (asked : Command) (s : Script) (old told new : Option (List ℕ)) (e : Outcome) → IsEmpty old → HoldsArchive s old new → new ≡ told → ReportCauses told e → LeftBy s old new e
 reported_by asked s old told new outcomes.OutputFault empty h same c = h
 reported_by asked s old told new outcomes.OutOfMemory empty h same c = no_part s old new empty h

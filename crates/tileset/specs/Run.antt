@@ -79,7 +79,7 @@ answer_command (Some (Bulk tiles repeat leaf)) input medium = answer_script (Ok 
 abbrev pub answer : Given → Option Outcome
 answer given = answer_command (command given.words) given.input given.medium
 
--- what may come in place of the answer: want of memory, and a fault, whose count then rose
+-- what may come in place of the answer: running out of memory, and a fault, whose count then rose
 abbrev pub Yields : Outcome → Type 0
 Yields OutOfMemory = Unit {0}
 Yields InputFault = Unit {0}
@@ -118,7 +118,7 @@ abbrev pub SomeScript : Given → (Script → Type 0) → Type 0
 SomeScript given P = (s : Script) × IsScript given s × P s
 
 -- When each refusal of a script's conversion comes; never another of its errors. The refusal of a store is none of a
--- fault or of want of memory.
+-- fault or of running out of memory.
 abbrev pub RefusedBy : Script → Option (List ℕ) → ConvertError → Type 0
 RefusedBy s medium (refusals.MediumNotEmpty n) = (0 < n) × IfSome medium (λ bytes. n ≡ length bytes)
 RefusedBy s medium (refusals.UnsupportedCompression label) = IsEmpty medium × (label ≡ s.options.writer.internal_compression) × (label ≢ compression.None)
@@ -146,7 +146,7 @@ ReadsInput (Some ConvertHex) = Unit {0}
 ReadsInput (Some ConvertFile) = Unit {0}
 ReadsInput _ = ⊥
 
--- When each answer comes. The faults have their causes by the counts, and want of memory is free.
+-- When each answer comes. The faults have their causes by the counts, and running out of memory is free.
 abbrev pub Causes : Given → Outcome → Type 0
 Causes given Usage = command given.words ≡ None
 Causes given (BadScript line) = ReadsInput (command given.words) × IsShort given.input × IfSome given.input (λ bytes. script_of bytes ≡ Err line)
@@ -170,8 +170,8 @@ abbrev pub HoldsArchive : Script → Option (List ℕ) → Option (List ℕ) →
 HoldsArchive s old new = BothTold (λ before b. (final : State) × (converted s ≡ Ok final) × IsArchiveOf b s.options.writer final.tiles) old new
 
 -- What the medium holds in the end, where there is a script. After Done and after a fault of the sink it is the archive
--- of the script. After a fault of the medium and want of memory a medium that was empty shows no part: no reader opens
--- its bytes, or the whole archive stands.
+-- of the script. After a fault of the medium and running out of memory a medium that was empty shows no part: no reader
+-- opens its bytes, or the whole archive stands.
 abbrev pub LeftBy : Script → Option (List ℕ) → Option (List ℕ) → Outcome → Type 0
 LeftBy s old new Done = HoldsArchive s old new
 LeftBy s old new OutputFault = HoldsArchive s old new

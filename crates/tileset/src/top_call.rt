@@ -24,7 +24,7 @@ pub fn run<I: Source, O: Sink, M: Medium>(
     output: &mut O,
     medium: &mut M,
 ) -> Outcome
-    // The answer is that of the order of tests, or want of memory, or a fault whose count rose.
+    // The answer is that of the order of tests, or running out of memory, or a fault whose count rose.
     ensures exact { Gives (answer (given_of words.now (I.left input.old) (M.told medium.old)))
         result }
     // Where all is valid and no count rose, it is Done, or memory ran out.
