@@ -33,7 +33,7 @@ pub use Rattle.mb_tables.specs.declared.key.RowKey.{RowKey}
 pub use Rattle.std.proofs.Common.{add-one, ap, append-nil, append_assoc, arith, Bool, Bor, cond, drop, drop-cons, Err, false, filter, find, fold, get_or, Global, if◌then◌else◌, inl, inr, is_ok}
 pub use Rattle.std.proofs.Common.{length, length-append, length-drop, length-set, length-take, List, map, min, None, not, Ok, Option, refl, Result, rules, set, Some, subst, suc, sum_by, sym, take}
 pub use Rattle.std.proofs.Common.{true, Vec, zero, ℕ, [], ◌&&◌, ◌++◌, ◌+◌, ◌-◌, ◌<◌, ◌==◌, ◌^◌, ◌||◌, ◌↔◌, ◌∙◌, ◌∷◌, ◌≡◌, ◌≤◌, ◌⊎◌}
-pub use Rattle.std.proofs.Math.Seq.{take-nil, take-suc}
+pub use Rattle.std.proofs.Math.Seq.{drop-nil, take-nil, take-suc}
 pub use Rattle.std.proofs.lemmas.Bool.{and_from, and_left, and_parts, cases_Bool, cases_eq, cases_lt, eq-eqb, eqb-true, false≢true, le-ltb, lt-ltb, ne_eqb}
 pub use Rattle.std.proofs.lemmas.List.{drop-map, get_or-drop, get_or-set_other, get_or-set_same, get_or-take, get_or_default, length-map, take_all}
 pub use Rattle.std.proofs.lemmas.List.Elements.{All-cons, All-contains_itself, All-drop, All-filter, All-head, All-nil, All-push, All-set, All-tail, All-take, All-weaker, filter_agree, filter_passes}

@@ -1,5 +1,5 @@
 -- What a count of faults that stands at Ok gives where one call ends in another.
-use Rattle.mb_store.proofs.Common.{Err, Ok, OnOk, refl, Result, subst, sym, ℕ, ◌∙◌, ◌≡◌}
+use Rattle.mb_store.proofs.Common.{Err, Ok, OnOk, Result, subst, sym, ℕ, ◌∙◌, ◌≡◌}
 use Rattle.std.specs.Prelude.{IsErrOf}
 use Rattle.base_values.specs.Counts.{Rose}
 use Rattle.mb_store.specs.Kept.{FaultsCounted}

@@ -1,5 +1,5 @@
 -- What stays of the tables in memory when rows are added.
-use Rattle.mb_store.proofs.Common.{All, AllPairs, and_from, and_parts, AreAllStored, arith, at, Bool, Cell, cells_eq, cells_eq-Decides, clash, false, get_or, insert, is_null, IsKept, key_of, length}
+use Rattle.mb_store.proofs.Common.{All, AllPairs, and_from, and_parts, AreAllStored, arith, Bool, Cell, cells_eq, cells_eq-Decides, clash, false, get_or, insert, is_null, IsKept, key_of, length}
 use Rattle.mb_store.proofs.Common.{List, list_any, list_any_at, MemTables, not, refl, rows_at, subst, sym, TableDesc, TableName, true, width, ℕ, ◌&&◌, ◌<◌, ◌^◌, ◌∙◌, ◌≡◌, ◌≤◌}
 use Rattle.mb_store.proofs.Ordered.{AllPairs-insert}
 

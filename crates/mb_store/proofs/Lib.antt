@@ -15,5 +15,6 @@ pub mod RowsPut
 pub mod GatheredLemmas
 pub mod GatheringLemmas
 pub mod HeldLemmas
+mod BookmarkLemmas
 mod ReadingLemmas
 pub mod FaultLemmas

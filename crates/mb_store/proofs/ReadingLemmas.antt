@@ -1,5 +1,5 @@
 -- Rows that are read one after another.
-use Rattle.mb_store.proofs.Common.{ap, append-nil, append_assoc, arith, Cell, drop, drop-map, List, rows_of, Stored, suc, sym, take, take-nil, ℕ, [], ◌++◌, ◌-◌, ◌<◌, ◌∙◌, ◌∷◌, ◌≡◌}
+use Rattle.mb_store.proofs.Common.{ap, append-nil, append_assoc, arith, Cell, drop, List, rows_of, Stored, suc, sym, take, take-nil, ℕ, [], ◌++◌, ◌-◌, ◌<◌, ◌∙◌, ◌∷◌, ◌≡◌}
 
 -- one more row of a page
 pub page_next : (page : List (List Cell)) (left : ℕ) (row : List Cell) (old rest all : List (List Cell)) → 0 < left → old ≡ row ∷ rest → page ++ take left old ≡ all → (page ++ row ∷ []) ++ take (left - 1) rest ≡ all
@@ -15,7 +15,12 @@ none_wanted left rest none = ap (λ n. take n (rows_of rest)) none
 pub none_there : (left : ℕ) (rest : List Stored) → rest ≡ [] → take left (rows_of rest) ≡ []
 none_there left rest none = ap (λ keys. take left (rows_of keys)) none ∙ take-nil left
 
+-- what stays behind the rows that are wanted
+pub rest_next : (left : ℕ) (row : Stored) (old rest behind : List Stored) → 0 < left → old ≡ row ∷ rest → drop left old ≡ behind → drop (left - 1) rest ≡ behind
+rest_next left row old rest behind some front now =
+    let next : left ≡ suc (left - 1) = omega arith in
+    sym (ap (drop left) front ∙ ap (λ n. drop n (row ∷ rest)) next) ∙ now
+
 -- a page to which no row comes any more
-pub page_whole : (page : List (List Cell)) (left limit from : ℕ) (rest past keys : List Stored) → past ≡ drop from keys → take left (rows_of rest) ≡ [] → page ++ take left (rows_of rest) ≡ take limit (rows_of past) → page ≡ take limit (drop from (rows_of keys))
-page_whole page left limit from rest past keys is none now =
-    sym (append-nil page) ∙ (ap (λ xs. page ++ xs) (sym none) ∙ (now ∙ (ap (λ ks. take limit (rows_of ks)) is ∙ ap (take limit) (sym (drop-map (λ (s : Stored). s.0) from keys)))))
+pub page_whole : (page : List (List Cell)) (left : ℕ) (rest all : List (List Cell)) → take left rest ≡ [] → page ++ take left rest ≡ all → page ≡ all
+page_whole page left rest all none now = sym (append-nil page) ∙ (ap (λ xs. page ++ xs) (sym none) ∙ now)

@@ -232,7 +232,7 @@ first_if_is p xs x rest b e h = ap (first_if p) e ∙ ap (λ c. cond c (Some x) 
 first_if_none : {X : Type 0} (p : X → Bool) (xs : List X) → xs ≡ [] → ◌≡◌ {A = Option X} (first_if p xs) None
 first_if_none p xs e = ap (first_if p) e
 
-and_true : (b : Bool) → (b && true) ≡ b
+pub and_true : (b : Bool) → (b && true) ≡ b
 and_true true = refl
 and_true false = refl
 

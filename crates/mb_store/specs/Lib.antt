@@ -13,5 +13,6 @@ pub mod ByTable
 pub mod MemTables
 pub mod GatheredRows
 pub mod Gathered
+pub mod Bookmark
 pub mod MemStore
 pub mod Kept

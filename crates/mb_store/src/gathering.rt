@@ -53,6 +53,7 @@ pub(crate) fn settle(tables: &mut MemTables, gathered: &mut Gathered) -> Result<
     requires gathered { AreGathered tables.old gathered.old }
     ensures told { told_at tables.new gathered.new ≡ told_at tables.old gathered.old }
     ensures ok { OnOk result (gathered.new.rows.items ≡ []) }
+    ensures idle { gathered.old.rows.items ≡ [] → tables.new ≡ tables.old }
     ensures closed { gathered.new.is_open ≡ false }
     ensures table { gathered.new.table ≡ gathered.old.table }
     ensures stored { AreAllStored tables.new }

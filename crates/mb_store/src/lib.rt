@@ -1,6 +1,7 @@
 //! Stores of tables: the trait, the changes of a commit, and a store in memory.
 #![tactic(auto)]
 
+mod bookmark;
 mod by_table;
 mod change;
 mod changes;
@@ -10,6 +11,7 @@ mod describing;
 mod editing;
 mod gathered;
 mod gathering;
+mod key_cells;
 pub mod laws;
 mod mem_store;
 mod mem_tables;

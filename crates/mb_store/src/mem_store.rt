@@ -1,5 +1,7 @@
 // A store of tables in memory.
+ghost use Rattle.std.proofs.Props.{props};
 ghost use Rattle.std.specs.Prelude.{◌≡◌, ◌↔◌, ◌≤◌, false, true, [], All, drop, find, length, take, IfErr, IfOk, IfSome, IsOkUnless, OnErr, OnOk};
+ghost use Rattle.mb_store.specs.Bookmark.{IsMarked};
 ghost use Rattle.mb_store.specs.Common.{called, has_key, is_table, IsInOrder, names_apart, set_tables, width};
 ghost use Rattle.mb_store.specs.Committing.{AreOfTables, Commits};
 ghost use Rattle.mb_store.specs.Gathered.{IsHeld};
@@ -9,12 +11,13 @@ ghost use Rattle.mb_store.specs.Store.{created, is_duplicate, no_rows, with_row,
 ghost use Rattle.mb_store.specs.Errors.{IsRowError, RefusesTwice};
 ghost use Rattle.mb_store.specs.Kept.{FaultsCounted, Keeps, ReadsOnly};
 
+use crate::bookmark::Bookmark;
 use crate::by_table::ByTable;
 use crate::gathered::Gathered;
 use crate::mem_tables::MemTables;
 use crate::{
     Changes, MbtError, MbtResult, MbtType, Row, RowKey, StoreError, TableDesc, TableName,
-    TileStore, committing, describing, gathering, mem_tables, reading, table_rows, taking,
+    TileStore, bookmark, committing, describing, gathering, mem_tables, table_rows, taking,
 };
 use base_values::{FailingCalls, OutOfMemory};
 use std::alloc::Global;
@@ -28,9 +31,11 @@ pub struct MemStore {
     keyed: ByTable<bool>,
     tables: MemTables,
     gathered: Gathered,
+    bookmark: Bookmark,
     failing: FailingCalls,
     ghost keys: { AreKeyed descriptions.items keyed },
     ghost kept: { IsHeld descriptions.items tables gathered },
+    ghost marked: { IsMarked tables bookmark } by { Prim.hlevel props },
 }
 
 #[tactic(auto, unfolding(crate::specs::MemStore::told_of, crate::specs::MemStore::failing_of, crate::specs::MemStore::faults_of, crate::specs::MemStore::IsSteady))]
@@ -71,6 +76,7 @@ impl MemStore {
             descriptions,
             tables: mem_tables::no_rows(alloc),
             gathered: Gathered::none(alloc),
+            bookmark: Bookmark::none(),
             failing: FailingCalls::none(alloc),
         }
     }
@@ -90,6 +96,7 @@ impl MemStore {
         ensures steady { IsSteady self.new ↔ IsSteady self.old }
     {
         let keyed = *self.keyed.of(table);
+        self.bookmark = Bookmark::none();
         gathering::push(&mut self.tables, &mut self.gathered, table, keyed, row)
     }
 
@@ -101,6 +108,8 @@ impl MemStore {
         ensures closed { self.new.gathered.is_open ≡ false }
         ensures failing { self.new.failing ≡ self.old.failing }
     {
+        let stay = self.gathered.rows.is_empty();
+        self.bookmark.keep_if(stay);
         gathering::settle(&mut self.tables, &mut self.gathered)
     }
 
@@ -121,6 +130,7 @@ impl MemStore {
         ensures failing { failing_of self.new ≡ failing_of self.old }
         ensures steady { IsSteady self.new ↔ IsSteady self.old }
     {
+        self.bookmark = Bookmark::none();
         taking::take(alloc, &mut self.tables, &mut self.gathered, table)
     }
 
@@ -203,7 +213,8 @@ impl TileStore for MemStore {
             return Err(StoreError::Fault);
         }
         self.settle()?;
-        Ok(reading::page_of(alloc, self.tables.of(table), from, limit)?)
+        let (tables, bookmark) = (&self.tables, &mut self.bookmark);
+        Ok(bookmark::page(alloc, tables, bookmark, table, from, limit)?)
     }
 
     fn find(
@@ -257,6 +268,7 @@ impl TileStore for MemStore {
             return Err(StoreError::Fault);
         }
         self.settle()?;
+        self.bookmark = Bookmark::none();
         committing::commit_all(alloc, changes.as_slice(), &mut self.tables)?;
         Ok(())
     }

@@ -1,5 +1,5 @@
 // Reading rows in the order of their keys.
-ghost use Rattle.std.specs.Prelude.{◌≡◌, IfOk, drop, take};
+ghost use Rattle.std.specs.Prelude.{◌≡◌, drop, take, IfOk, OnOk};
 ghost use Rattle.mb_store.specs.StoredRow.{rows_of};
 ghost use Rattle.mb_store.specs.TableRows.{rows_in};
 
@@ -8,10 +8,10 @@ use crate::stored_row::StoredRow;
 use crate::table_rows::TableRows;
 use base_values::OutOfMemory;
 use std::alloc::Global;
-use std::collections::btree_set::Iter;
+use std::collections::btree_set::Range;
 
 // The rows behind the first ones.
-fn past(rows: Iter<'_, StoredRow>, count: u64) -> Iter<'_, StoredRow>
+pub(crate) fn past(rows: Range<'_, StoredRow>, count: u64) -> Range<'_, StoredRow>
     ensures { result ≡ drop count rows.entry }
 {
     let mut rest = rows;
@@ -25,20 +25,20 @@ fn past(rows: Iter<'_, StoredRow>, count: u64) -> Iter<'_, StoredRow>
     rest
 }
 
-// Copies of the rows from a place on, as many as there are, up to a limit.
+// Copies of the next rows, as many as there are, up to a limit, in a list with room for so many.
 pub(crate) fn page_of(
     alloc: Global,
-    rows: &TableRows,
-    from: u64,
+    rows: &mut Range<'_, StoredRow>,
     limit: u64,
+    room: u64,
 ) -> Result<Vec<Row>, OutOfMemory>
-    ensures { IfOk result (λ page. page.items ≡ take limit (drop from (rows_in rows.now))) }
+    ensures page { IfOk result (λ page. page.items ≡ take limit (rows_of rows.old)) }
+    ensures rest { OnOk result (rows.new ≡ drop limit rows.old) }
 {
-    let mut rest = past(rows.iter(), from);
-    let mut page = Vec::with_capacity(alloc, rest.len().min(limit as usize))?;
+    let mut page = Vec::with_capacity(alloc, room as usize)?;
     let mut left = limit;
     while left > 0 {
-        let Some(row) = rest.next() else {
+        let Some(row) = rows.next() else {
             return Ok(page);
         };
         page.push(row.to_row(alloc)?)?;

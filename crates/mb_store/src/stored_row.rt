@@ -3,6 +3,7 @@ ghost use Rattle.std.specs.Prelude.{◌≡◌, [], ◌∷◌, ◌++◌, IfOk, If
 ghost use Rattle.mb_store.specs.Common.{cells_cmp, eq_by_cmp, eq_by_cmp_equiv, key_cells, partial_equiv_from_equiv, partial_order_from_total};
 ghost use Rattle.mb_store.specs.StoredRow.{cells_in, in_front, is_early, numbers_cells, own_key, stored_cmp, stored_total};
 
+use crate::key_cells::{cells_of, clone_cells, own_key};
 use crate::{Cell, Row, RowKey};
 use base_values::OutOfMemory;
 use std::alloc::Global;
@@ -40,14 +41,6 @@ impl Model for StoredRow {
 
     ghost invariant = { λ s. s.is_numbered ≡ true
         → own_key (cells_in s.numbers s.cells) ≡ numbers_cells s.numbers };
-}
-
-// The cells of a row's key, whose number the row's width tells.
-fn own_key(row: &[Cell]) -> &[Cell]
-    ensures { result.now ≡ own_key row.now }
-{
-    let width = if row.len() > 2 { 3 } else { 1 };
-    &row[..row.len().min(width)]
 }
 
 // Three numbers in fewer bytes, where each of them fits.
@@ -122,23 +115,6 @@ fn compare_numbers(numbers: (u32, u32, u32), others: (u32, u32, u32)) -> Orderin
         .then_with(|| i64::from(numbers.2).cmp(&i64::from(others.2)))
 }
 
-// The cells of a key.
-fn cells_of(alloc: Global, key: &RowKey) -> Result<Vec<Cell>, OutOfMemory>
-    ensures { IfOk result (λ cells. cells.items ≡ key_cells key.now) }
-{
-    let mut cells = Vec::new(alloc);
-    match key {
-        RowKey::Tile { zoom, column, row } => {
-            cells.push(Cell::Int(i64::from(*zoom)))?;
-            cells.push(Cell::Int(i64::from(*column)))?;
-            cells.push(Cell::Int(i64::from(*row)))?;
-        }
-        RowKey::TextId(text) => cells.push(Cell::Text(text.try_clone(alloc)?))?,
-        RowKey::IntId(id) => cells.push(Cell::Int(*id))?,
-    }
-    Ok(cells)
-}
-
 impl StoredRow {
     // A row that came with a number.
     pub fn new(row: Row, arrival: u64) -> StoredRow
@@ -165,6 +141,25 @@ impl StoredRow {
         ensures { IfOk result (λ s. s ≡ (key_cells key.now, 0)) }
     {
         Ok(StoredRow::new(Row::new(cells_of(alloc, key)?), 0))
+    }
+
+    // A row of the same key and number, which leaves out the other cells.
+    pub fn to_key(&self, alloc: Global) -> Result<StoredRow, OutOfMemory>
+        ensures key { IfOk result (λ s. own_key s.0 ≡ own_key self.now.0) }
+        ensures arrival { IfOk result (λ s. s.1 ≡ self.now.1) }
+    {
+        let cells = match &self.cells {
+            StoredCells::Last(_) => StoredCells::Last(Cell::Null),
+            StoredCells::All(row) => {
+                StoredCells::All(Row::new(clone_cells(alloc, own_key(row.cells()))?))
+            }
+        };
+        Ok(StoredRow {
+            numbers: self.numbers,
+            is_numbered: self.is_numbered,
+            arrival: self.arrival,
+            cells,
+        })
     }
 
     // A copy of the row.

@@ -4,17 +4,14 @@ use Rattle.mb_store.proofs.HeldLemmas.{commits_told, held_kept, kept_settled, on
 use Rattle.mb_store.proofs.KeptCommit.{kept_after}
 use Rattle.mb_store.proofs.mem_store.MemStoreTileStore.commit.Goals as goal
 
-pub invariant_of-self-2 : goal.invariant_of-self-2
+pub invariant_of-self-2-clause-kept : goal.invariant_of-self-2-clause-kept
 unfolding told_of
-invariant_of-self-2 c =
+invariant_of-self-2-clause-kept c =
     let s = c.settle.new.self in
     let same = ap (λ (t : Tables). t.descriptions) c.in_ok-settle.ensures.told in
-    record {
-      keys = s.keys;
-      kept = held_kept s.descriptions.items s.tables c.commit_all.new.tables s.gathered c.in_ok-settle.ensures.none c.in_ok-settle.ensures.closed s.kept.gathered
-          (kept_after s.descriptions.items c.as_slice.result.now (subst (λ (cs : List Change). AreOfTables s.descriptions.items cs) (sym c.as_slice.ensures.all) (subst (λ (ds : List TableDesc). AreOfTables ds c.args.changes.now) (sym same) c.requires)) c.commit_all.result s.tables c.commit_all.new.tables c.commit_all.ensures.ok c.commit_all.ensures.err c.commit_all.ensures.stored
-          (kept_settled s.descriptions.items s.tables s.gathered c.in_ok-settle.ensures.none s.kept));
-    }
+    held_kept s.descriptions.items s.tables c.commit_all.new.tables s.gathered c.in_ok-settle.ensures.none c.in_ok-settle.ensures.closed s.kept.gathered
+    (kept_after s.descriptions.items c.as_slice.result.now (subst (λ (cs : List Change). AreOfTables s.descriptions.items cs) (sym c.as_slice.ensures.all) (subst (λ (ds : List TableDesc). AreOfTables ds c.args.changes.now) (sym same) c.requires)) c.commit_all.result s.tables c.commit_all.new.tables c.commit_all.ensures.ok c.commit_all.ensures.err c.commit_all.ensures.stored
+    (kept_settled s.descriptions.items s.tables s.gathered c.in_ok-settle.ensures.none s.kept))
 
 pub returns-in_err-commit_all-clause-err : goal.returns-in_err-commit_all-clause-err
 unfolding told_of
