@@ -2,10 +2,10 @@
 use Rattle.pm_writer.proofs.Common.{Adds, ap, append-nil, append_assoc, arith, begun, Bool, BothTold, bytes_eq, Contents, contents_from, data_end, data_of, drop, drop_at, false, FilledFits, Finds}
 use Rattle.pm_writer.proofs.Common.{finds_alike, flat_map, flat_push, found_in, fresh, fresh_known, fresh_new, has_failed, if_both, if_some_map, IfSome, is_some, IsAlike, IsHidden, IsNew, IsTold}
 use Rattle.pm_writer.proofs.Common.{IsWithin, length, length-append, List, list_any, Means, None, Option, Options, piece_sought, place_sought, put_new, refl, Some, Sought, subst, sym, take, Took}
-use Rattle.pm_writer.proofs.Common.{true, WriterState, Writes, written, WroteFront, xxh3_64, zeros, ℕ, [], ◌++◌, ◌+◌, ◌<◌, ◌^◌, ◌∙◌, ◌∷◌, ◌≡◌, ◌≤◌}
+use Rattle.pm_writer.proofs.Common.{true, with_run, WriterState, Writes, written, WroteFront, xxh3_64, zeros, ℕ, [], ◌++◌, ◌+◌, ◌<◌, ◌^◌, ◌∙◌, ◌∷◌, ◌≡◌, ◌≤◌}
 use Rattle.pm_contents.specs.declared.sought.Sought.TheVariants as sought
 use Rattle.pm_writer.proofs.Beginning.{begun_is_hidden, zeros_length}
-use Rattle.pm_writer.proofs.ContentLemmas.{contents_push}
+use Rattle.pm_writer.proofs.ContentLemmas.{contents_push, contents_run}
 use Rattle.pm_writer.proofs.MediumPieces.{both_now, both_tell, hidden_behind, written_behind}
 
 pub begun_length : (o : Options) (adds : List (ℕ × List ℕ)) → length (begun o adds) ≡ data_end o adds
@@ -53,11 +53,11 @@ left_taken cs at x bytes s (Some b) None t f h = absurd h
 left_taken cs at x bytes s (Some b) (Some c) t f h = h ∙ ap (written b at) (ap (piece_sought s) (sym t) ∙ piece_is cs x s f)
 
 -- and is found there
-found_taken : (d : Contents) (adds : List (ℕ × List ℕ)) (id : ℕ) (x bytes : List ℕ) (s : Sought) (t0 t1 : Option (List ℕ)) → Took t0 bytes x → is_some t1 ≡ is_some t0 → found_in (contents_from [] adds) x ≡ place_sought s
-    → IfSome t0 (λ b. found_in (contents_from [] adds) bytes ≡ place_sought s → Finds xxh3_64 d (contents_from [] (adds ++ (id, bytes) ∷ []))) → IfSome t1 (λ b. Finds xxh3_64 d (contents_from [] (adds ++ (id, x) ∷ [])))
-found_taken d adds id x bytes s t0 None t same f k = tt
-found_taken d adds id x bytes s None (Some c) t same f k = absurd (cc)
-found_taken d adds id x bytes s (Some b) (Some c) t same f k = subst (λ z. Finds xxh3_64 d (contents_from [] (adds ++ (id, z) ∷ []))) (sym t) (k (ap (found_in (contents_from [] adds)) (sym t) ∙ f))
+found_taken : (d : Contents) (adds : List (ℕ × List ℕ)) (id n : ℕ) (x bytes : List ℕ) (s : Sought) (t0 t1 : Option (List ℕ)) → Took t0 bytes x → is_some t1 ≡ is_some t0 → found_in (contents_from [] adds) x ≡ place_sought s
+    → IfSome t0 (λ b. found_in (contents_from [] adds) bytes ≡ place_sought s → Finds xxh3_64 d (contents_from [] (with_run adds id n bytes))) → IfSome t1 (λ b. Finds xxh3_64 d (contents_from [] (with_run adds id n x)))
+found_taken d adds id n x bytes s t0 None t same f k = tt
+found_taken d adds id n x bytes s None (Some c) t same f k = absurd (cc)
+found_taken d adds id n x bytes s (Some b) (Some c) t same f k = subst (λ z. Finds xxh3_64 d (contents_from [] (with_run adds id n z))) (sym t) (k (ap (found_in (contents_from [] adds)) (sym t) ∙ f))
 
 pub sought_fits : (o : Options) (adds : List (ℕ × List ℕ)) (id at : ℕ) (x bytes : List ℕ) (s : Sought) → at ≡ data_end o adds → length bytes < 2 ^ 32 → length x ≡ length bytes → found_in (contents_from [] adds) x ≡ place_sought s
     → at + length (piece_sought s bytes) < 2 ^ 64 → FilledFits o adds id x
@@ -67,26 +67,31 @@ sought_fits o adds id at x bytes s e z n f h = (omega (arith, z, n), omega (arit
 pub new_long : (o : Options) (adds : List (ℕ × List ℕ)) (id at size : ℕ) (x : List ℕ) → at ≡ data_end o adds → length x ≡ size → IsNew (contents_from [] adds) x → 2 ^ 64 ≤ at + size → FilledFits o adds id x → ⊥
 new_long o adds id at size x e n new long fits = omega (arith, fits.1, end_more o adds id x, ap length (fresh_new (contents_from [] adds) x new), e, n, long)
 
--- the writer with one more add
-pub added_writes : (o : Options) (adds : List (ℕ × List ℕ)) (t0 t1 : Option (List ℕ)) (s : WriterState) (after : Adds) (id at : ℕ) (x bytes : List ℕ) (how : Sought) → Writes o t0 s adds → has_failed s ≡ false → at ≡ data_end o adds
-    → FilledFits o adds id x → Took t0 bytes x → found_in (contents_from [] adds) x ≡ place_sought how → Means after (adds ++ (id, x) ∷ [])
-    → (Finds xxh3_64 s.adds.contents (contents_from [] adds) → found_in (contents_from [] adds) bytes ≡ place_sought how → Finds xxh3_64 after.contents (contents_from [] (adds ++ (id, bytes) ∷ [])))
-    → BothTold (λ b c. c ≡ written b at (piece_sought how bytes)) t0 t1 → Writes o t1 (record s { adds = after }) (adds ++ (id, x) ∷ [])
-added_writes o adds t0 t1 s after id at x bytes how w alive e fits t f m k h =
-    let more = data_more adds id x in
+-- a run of the same bytes has the contents of its first id, so it ends there
+data_run : (adds : List (ℕ × List ℕ)) (id n : ℕ) (bytes : List ℕ) → 0 < n → data_of (with_run adds id n bytes) ≡ data_of (adds ++ (id, bytes) ∷ [])
+data_run adds id n bytes some = ap (flat_map (λ c. c)) (contents_run [] adds id n bytes some ∙ sym (contents_push [] adds (id, bytes)))
+
+-- the writer with a run more
+pub added_writes : (o : Options) (adds : List (ℕ × List ℕ)) (t0 t1 : Option (List ℕ)) (s : WriterState) (after : Adds) (id n at : ℕ) (x bytes : List ℕ) (how : Sought) → Writes o t0 s adds → has_failed s ≡ false → at ≡ data_end o adds → 0 < n
+    → FilledFits o adds id x → Took t0 bytes x → found_in (contents_from [] adds) x ≡ place_sought how → Means after (with_run adds id n x)
+    → (Finds xxh3_64 s.adds.contents (contents_from [] adds) → found_in (contents_from [] adds) bytes ≡ place_sought how → Finds xxh3_64 after.contents (contents_from [] (with_run adds id n bytes)))
+    → BothTold (λ b c. c ≡ written b at (piece_sought how bytes)) t0 t1 → Writes o t1 (record s { adds = after }) (with_run adds id n x)
+added_writes o adds t0 t1 s after id n at x bytes how w alive e some fits t f m k h =
+    let run = data_run adds id n x some in
+    let more = run ∙ data_more adds id x in
     let piece = fresh (contents_from [] adds) x in
     let left = left_taken (contents_from [] adds) at x bytes how t0 t1 t f h in
-    let laid : IfSome t1 (λ b. b ≡ begun o (adds ++ (id, x) ∷ [])) =
-    both_now (λ b. b ≡ begun o adds) (λ b. b ≡ begun o (adds ++ (id, x) ∷ [])) (λ b c. c ≡ written b at piece) t0 t1
+    let laid : IfSome t1 (λ b. b ≡ begun o (with_run adds id n x)) =
+    both_now (λ b. b ≡ begun o adds) (λ b. b ≡ begun o (with_run adds id n x)) (λ b c. c ≡ written b at piece) t0 t1
     (λ b c p q. q ∙ (written_behind b piece at (omega (arith, e, ap length p, begun_length o adds)) ∙ (ap (λ z. z ++ piece) p ∙ (joined (zeros 16384) o.metadata (data_of adds) piece ∙ ap (λ z. zeros 16384 ++ (o.metadata ++ z)) (sym more))))) ((w.held alive).bytes) left in
     record {
       of = record { settings = w.of.settings; plain = w.of.plain; fit = w.of.fit; place = w.of.place };
-      hidden = begun_is_hidden o (adds ++ (id, x) ∷ []) t1 laid;
+      hidden = begun_is_hidden o (with_run adds id n x) t1 laid;
       held = λ q. record {
         means = m;
-        ends = fits.1;
+        ends = omega (arith, fits.1, ap length run);
         bytes = laid;
-        finds = found_taken after.contents adds id x bytes how t0 t1 t (both_tell (λ b c. c ≡ written b at piece) t0 t1 left) f (if_some_map (λ b. Finds xxh3_64 s.adds.contents (contents_from [] adds)) _ t0 (λ b. k) ((w.held alive).finds));
+        finds = found_taken after.contents adds id n x bytes how t0 t1 t (both_tell (λ b c. c ≡ written b at piece) t0 t1 left) f (if_some_map (λ b. Finds xxh3_64 s.adds.contents (contents_from [] adds)) _ t0 (λ b. k) ((w.held alive).finds));
       };
     }
   where

@@ -1,6 +1,6 @@
 -- The first pieces of an archive on an empty medium.
 use Rattle.pm_writer.proofs.Common.{ap, append-nil, arith, begun, BothTold, data_of, get_or, get_or-append, get_or-replicate, if_some_map, IfSome, inl, inr, IsHidden, IsWithin, length}
-use Rattle.pm_writer.proofs.Common.{length-replicate, List, Option, Options, refl, Some, subst, suc, sym, take, written, WroteFront, zero, zeros, ℕ, [], ◌++◌, ◌∙◌, ◌∷◌, ◌≡◌, ◌≤◌}
+use Rattle.pm_writer.proofs.Common.{length-replicate, List, Option, Options, refl, subst, suc, sym, take, written, WroteFront, zero, zeros, ℕ, [], ◌++◌, ◌∙◌, ◌∷◌, ◌≡◌, ◌≤◌}
 use Rattle.pm_writer.proofs.MediumPieces.{both_now, hidden_behind, hidden_front, written_behind}
 use Rattle.pm_writer.proofs.Runs.{le_or}
 

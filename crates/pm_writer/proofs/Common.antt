@@ -34,7 +34,7 @@ pub use Rattle.pm_writer.specs.Common.{piece_sought, place_in, place_sought, Pmt
 unfoldable pub use Rattle.pm_writer.specs.Common.{archive_bytes, dir_bytes, dir_of, opened, scan, tile_by, varint, xxh3_64}
 pub use Rattle.pm_writer.specs.Cutting.{AreDirectories, HasMore, IsCut, IsLaid, IsRooted, IsShort, named}
 pub use Rattle.pm_writer.specs.Few.{AreFew}
-pub use Rattle.pm_writer.specs.Growing.{grows, put, Separates}
+pub use Rattle.pm_writer.specs.Growing.{grows, put, put_run, rest_of, Separates, taken_by, with_run}
 pub use Rattle.pm_writer.specs.Leaves.{below_layout, cut, end_of, fits_root, found_uppers, laid, Layout, named_leaves, pieces, stands_in_root, uppers_by}
 pub use Rattle.pm_writer.specs.Maps.{Covers, given, Gives, IsIn, RisingAdds, Tiles}
 pub use Rattle.pm_writer.specs.Means.{HasEntries, is_above, last_of, Means}
@@ -45,7 +45,7 @@ pub use Rattle.pm_writer.specs.Through.{Names, Rising, Through}
 pub use Rattle.pm_writer.specs.TileEntries.{entries_below, entries_by, entries_opened, entries_read}
 pub use Rattle.pm_writer.specs.Took.{Took, TookAll, TookBy}
 pub use Rattle.pm_writer.specs.Twice.{adds_at, covering, Distinct, first_within, IsLeastTwice, times}
-pub use Rattle.pm_writer.specs.Writing.{add_to, AddFits, begun, data_end, data_of, FilledFits, has_failed, IsStateOf, Writes}
+pub use Rattle.pm_writer.specs.Writing.{add_run_to, add_to, AddFits, begun, data_end, data_of, FilledFits, has_failed, IsStateOf, run_size, RunFits, Writes}
 unfoldable pub use Rattle.pm_writer.specs.Writing.{zeros}
 pub use Rattle.pm_writer.specs.declared.adds.Adds.{Adds}
 pub use Rattle.pm_writer.specs.declared.cutting.Directories.{Directories}
@@ -55,7 +55,7 @@ pub use Rattle.std.proofs.Common.{add-one, All, ap, append-nil, append_assoc, ar
 pub use Rattle.std.proofs.Common.{IsSome, length, length-append, length-drop, List, lit<, map, MatchOption, min, nat_eq, nat_le, nat_lt, None, not, Ok, OnOk, Option, refl, replicate, Result, rules}
 pub use Rattle.std.proofs.Common.{set, slice_index, Some, subst, suc, sum_by, sym, T, take, true, Vec, zero, ℕ, [], ◌&&◌, ◌*◌, ◌++◌, ◌+◌, ◌-◌, ◌/◌, ◌<◌, ◌^◌, ◌∙◌, ◌∷◌, ◌≡◌, ◌≢◌, ◌≤◌, ◌⊎◌}
 pub use Rattle.std.proofs.Math.ListN.{get_or-append, length-set}
-pub use Rattle.std.proofs.Math.Nat.{lt-div-mul-add, min-eq_left, mul-le-mul_right}
+pub use Rattle.std.proofs.Math.Nat.{lt-div-mul-add, min-eq_left, min-eq_right, mul-le-mul_right}
 pub use Rattle.std.proofs.lemmas.Bool.Decides.{nat_tests}
 pub use Rattle.std.proofs.lemmas.Grind.{common_steps, flat_map-append}
 pub use Rattle.std.proofs.lemmas.List.{drop-append-le, drop-map, drop-replicate, drop-set-lt, drop_all, drop_at, drop_min, drop_more, get_or-append_right, get_or-drop, get_or-replicate}

@@ -1,8 +1,9 @@
 -- Contents, once each, and their places.
-use Rattle.pm_writer.proofs.Common.{AddsFilled, arith, Block, blocks, Bool, bytes_eq, contents_from, entries_at, Entry, false, flat_map, Has, has_append, has_front, has_last, inl, inr, length, List}
-use Rattle.pm_writer.proofs.Common.{list_any, longest_run, nat_eq, onto, place_here, place_in, place_later, place_new, place_stays, put, put_new, put_new_had, put_new_keeps, refl, same_or, Separates}
-use Rattle.pm_writer.proofs.Common.{sym, true, unsorted, ℕ, [], ◌&&◌, ◌++◌, ◌+◌, ◌<◌, ◌∙◌, ◌∷◌, ◌≡◌}
+use Rattle.pm_writer.proofs.Common.{AddsFilled, ap, arith, Block, blocks, Bool, bytes_eq, contents_from, entries_at, Entry, false, flat_map, Has, has_append, has_front, has_last, inl, inr, length, List}
+use Rattle.pm_writer.proofs.Common.{list_any, longest_run, nat_eq, onto, place_here, place_in, place_later, place_new, place_stays, put_new, put_new_had, put_run, put_new_keeps, refl, same_or, Separates}
+use Rattle.pm_writer.proofs.Common.{subst, suc, sym, true, unsorted, with_run, zero, ℕ, [], ◌&&◌, ◌++◌, ◌+◌, ◌<◌, ◌∙◌, ◌∷◌, ◌≡◌, ◌≤◌}
 use Rattle.pm_writer.proofs.Blocks.{one_more, AllBlocks}
+use Rattle.pm_writer.proofs.Putting.{put_each, run_each}
 
 -- one more add
 pub contents_push : (seen : List (List ℕ)) (adds : List (ℕ × List ℕ)) (a : ℕ × List ℕ) → contents_from seen (adds ++ a ∷ []) ≡ put_new (contents_from seen adds) a.1
@@ -102,22 +103,48 @@ pub had_append : (cs ds : List (List ℕ)) (adds : List (ℕ × List ℕ)) → A
 had_append cs ds [] h = tt
 had_append cs ds (a ∷ adds) h = (has_append a.1 cs ds h.0, had_append cs ds adds h.1)
 
--- one more add of known bytes, and of new ones
-pub add_known : (adds : List (ℕ × List ℕ)) (a : ℕ × List ℕ) → AddsFilled adds → Has (contents_from [] adds) a.1
-    → (contents_from [] (adds ++ a ∷ []) ≡ contents_from [] adds)
-    × (placed (adds ++ a ∷ []) ≡ put longest_run a.0 (place_in (contents_from [] adds) a.1) (length a.1) (placed adds))
-add_known adds a f h =
-    let cs = contents_from [] adds in
-    let same : contents_from [] (adds ++ a ∷ []) ≡ cs = contents_push [] adds a ∙ rw h refl in
-    (same, rw same (one_more (place_in cs) adds a (separates cs adds a (contents_filled [] adds tt f) h (all_had [] adds))))
+-- a run of adds of the same bytes
+contents_again : (seen : List (List ℕ)) (adds : List (ℕ × List ℕ)) (id n : ℕ) (bytes : List ℕ) → Has (contents_from seen adds) bytes → contents_from seen (with_run adds id n bytes) ≡ contents_from seen adds
+contents_again seen adds id zero bytes h = refl
+contents_again seen adds id (suc n) bytes h =
+    let same : contents_from seen (adds ++ (id, bytes) ∷ []) ≡ contents_from seen adds = contents_push seen adds (id, bytes) ∙ rw h refl in
+    contents_again seen (adds ++ (id, bytes) ∷ []) (id + 1) n bytes (subst (λ cs. Has cs bytes) (sym same) h) ∙ same
 
-pub add_new : (adds : List (ℕ × List ℕ)) (a : ℕ × List ℕ) → AddsFilled adds → 0 < length a.1 → list_any (bytes_eq a.1) (contents_from [] adds) ≡ false
-    → (contents_from [] (adds ++ a ∷ []) ≡ contents_from [] adds ++ a.1 ∷ [])
-    × (placed (adds ++ a ∷ []) ≡ put longest_run a.0 (length (flat_map (λ c. c) (contents_from [] adds))) (length a.1) (placed adds))
-add_new adds a f s h =
+pub contents_run : (seen : List (List ℕ)) (adds : List (ℕ × List ℕ)) (id n : ℕ) (bytes : List ℕ) → 0 < n → contents_from seen (with_run adds id n bytes) ≡ put_new (contents_from seen adds) bytes
+contents_run seen adds id zero bytes some = absurd (omega (arith, some))
+contents_run seen adds id (suc n) bytes some =
+    let had = subst (λ cs. Has cs bytes) (sym (contents_push seen adds (id, bytes))) (put_new_had (contents_from seen adds) bytes) in
+    contents_again seen (adds ++ (id, bytes) ∷ []) (id + 1) n bytes had ∙ contents_push seen adds (id, bytes)
+
+-- which puts its ids one after another
+separates_push : (place : List ℕ → ℕ) (adds : List (ℕ × List ℕ)) (id next : ℕ) (bytes : List ℕ) → Separates place adds (id, bytes) → Separates place (adds ++ (id, bytes) ∷ []) (next, bytes)
+separates_push place [] id next bytes s = (λ e. refl, tt)
+separates_push place (b ∷ adds) id next bytes s = (s.0, separates_push place adds id next bytes s.1)
+
+each_more : (place : List ℕ → ℕ) (adds : List (ℕ × List ℕ)) (id n : ℕ) (bytes : List ℕ) → Separates place adds (id, bytes) → unsorted place (with_run adds id n bytes) ≡ put_each longest_run id (place bytes) (length bytes) n (unsorted place adds)
+each_more place adds id zero bytes s = refl
+each_more place adds id (suc n) bytes s =
+    each_more place (adds ++ (id, bytes) ∷ []) (id + 1) n bytes (separates_push place adds id (id + 1) bytes s)
+    ∙ ap (put_each longest_run (id + 1) (place bytes) (length bytes) n) (one_more place adds (id, bytes) s)
+
+pub run_more : (place : List ℕ → ℕ) (adds : List (ℕ × List ℕ)) (id n : ℕ) (bytes : List ℕ) → Separates place adds (id, bytes) → 0 < n → n ≤ longest_run → unsorted place (with_run adds id n bytes) ≡ put_run longest_run id (place bytes) (length bytes) n (unsorted place adds)
+run_more place adds id zero bytes s some fits = absurd (omega (arith, some))
+run_more place adds id (suc n) bytes s some fits = each_more place adds id (suc n) bytes s ∙ sym (run_each longest_run id (place bytes) (length bytes) n (unsorted place adds) fits)
+
+-- a run of known bytes, and of new ones
+pub run_known : (adds : List (ℕ × List ℕ)) (id n : ℕ) (bytes : List ℕ) → AddsFilled adds → 0 < n → n ≤ longest_run → Has (contents_from [] adds) bytes
+    → placed (with_run adds id n bytes) ≡ put_run longest_run id (place_in (contents_from [] adds) bytes) (length bytes) n (placed adds)
+run_known adds id n bytes f some fits h =
     let cs = contents_from [] adds in
-    let ds = cs ++ a.1 ∷ [] in
-    let same : contents_from [] (adds ++ a ∷ []) ≡ ds = contents_push [] adds a ∙ rw h refl in
-    let more = one_more (place_in ds) adds a (separates ds adds a (filled_push cs a.1 (contents_filled [] adds tt f) s) (has_last a.1 cs) (had_append cs (a.1 ∷ []) adds (all_had [] adds))) in
-    let stays = same_unsorted (place_in ds) (place_in cs) adds (same_places cs (a.1 ∷ []) adds (all_had [] adds)) in
-    (same, rw same (more ∙ rw (place_new a.1 cs h, stays) refl))
+    let same : contents_from [] (with_run adds id n bytes) ≡ cs = contents_again [] adds id n bytes h in
+    rw same (run_more (place_in cs) adds id n bytes (separates cs adds (id, bytes) (contents_filled [] adds tt f) h (all_had [] adds)) some fits)
+
+pub run_new : (adds : List (ℕ × List ℕ)) (id n : ℕ) (bytes : List ℕ) → AddsFilled adds → 0 < n → n ≤ longest_run → 0 < length bytes → list_any (bytes_eq bytes) (contents_from [] adds) ≡ false
+    → placed (with_run adds id n bytes) ≡ put_run longest_run id (length (flat_map (λ c. c) (contents_from [] adds))) (length bytes) n (placed adds)
+run_new adds id n bytes f some fits s h =
+    let cs = contents_from [] adds in
+    let ds = cs ++ bytes ∷ [] in
+    let same : contents_from [] (with_run adds id n bytes) ≡ ds = contents_run [] adds id n bytes some ∙ rw h refl in
+    let more = run_more (place_in ds) adds id n bytes (separates ds adds (id, bytes) (filled_push cs bytes (contents_filled [] adds tt f) s) (has_last bytes cs) (had_append cs (bytes ∷ []) adds (all_had [] adds))) some fits in
+    let stays = same_unsorted (place_in ds) (place_in cs) adds (same_places cs (bytes ∷ []) adds (all_had [] adds)) in
+    rw same (more ∙ rw (place_new bytes cs h, stays) refl)

@@ -1,8 +1,8 @@
 mod Common
 pub mod Runs
 pub mod Blocks
-pub mod ContentLemmas
 pub mod Putting
+pub mod ContentLemmas
 pub mod AfterAdd
 pub mod Times
 pub mod Ordered
@@ -40,4 +40,5 @@ pub mod Labelled
 pub mod PlacesRead
 pub mod Complete
 pub mod Took
+pub mod RunTaken
 pub mod Creating

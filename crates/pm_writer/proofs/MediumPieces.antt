@@ -3,7 +3,6 @@ use Rattle.pm_writer.proofs.Runs.{le_or}
 use Rattle.pm_writer.proofs.Common.{ap, append-nil, append_assoc, arith, BothTold, drop, drop-append-le, drop-set-lt, drop_all, drop_at, drop_more, get_or, get_or-append, get_or-append_right}
 use Rattle.pm_writer.proofs.Common.{get_or-drop, get_or-set_same, get_or-take, IfSome, inl, inr, is_some, IsHidden, length, length-set, length-take-le, List, None, Ok, Option, refl, set, Some, sym}
 use Rattle.pm_writer.proofs.Common.{take, take-append-drop, take-append-le, take-set-le, take_all, WriteLeaves, written, WroteFront, ℕ, [], ◌++◌, ◌+◌, ◌-◌, ◌<◌, ◌∙◌, ◌∷◌, ◌≡◌, ◌≤◌}
-use Rattle.byte_media.specs.declared.medium.WriteFault.TheVariants as writes
 
 pub both_map : (R S : List ℕ → List ℕ → Type 0) (old new : Option (List ℕ)) → ((b c : List ℕ) → R b c → S b c) → BothTold R old new → BothTold S old new
 both_map R S None None f h = h

@@ -1,10 +1,11 @@
 -- What an add does to a writer, by the medium before and after it and the writer's state before and after it.
 use Rattle.std.specs.Prelude.{◌≡◌, ℕ, List, [], Option, Result, OnOk, OnErr, length}
 use Rattle.pm_writer.specs.Common.{Compression, Options, PmtError}
+use Rattle.pm_format.specs.declared.compression.Compression.TheVariants as compression
 use Rattle.pm_writer.specs.Adds.{contents_from}
 use Rattle.pm_writer.specs.Causes.{AddCauses}
 use Rattle.pm_writer.specs.Took.{AreUnlike, TookBy}
-use Rattle.pm_writer.specs.Writing.{AddFits, Writes, add_to, has_failed}
+use Rattle.pm_writer.specs.Writing.{AddFits, RunFits, Writes, add_run_to, add_to, has_failed, run_size}
 use Rattle.pm_writer.specs.declared.state.WriterState.{WriterState}
 
 -- a state is that of some options and adds on what is told
@@ -35,3 +36,11 @@ IsCaused label told reads faults old new before id given result = WhereWrites (t
 -- nothing is read where no content has the digest and the length of the data
 abbrev pub IsQuiet : {M : Type 0} → (M → Option (List ℕ)) → (M → ℕ) → M → M → WriterState → List ℕ → Type 0
 IsQuiet told reads old new before given = WhereWrites (told old) before (λ o adds. AreUnlike (contents_from [] adds) given → reads new ≡ reads old)
+
+-- The same of a run of ids, all of which have what the data is taken for.
+abbrev pub IsRunAdded : {M : Type 0} → (M → Option (List ℕ)) → (M → ℕ) → M → M → WriterState → WriterState → ℕ → ℕ → List ℕ → Result Unit PmtError → Type 0
+IsRunAdded told reads old new before after id count given result = WhereWrites (told old) before (λ o adds. OnOk result (TakenFor told reads old new given (λ taken. Writes o (told new) after (add_run_to adds id count taken))))
+
+abbrev pub IsRunCaused : {M : Type 0} → (M → Option (List ℕ)) → (M → ℕ) → (M → ℕ) → M → M → WriterState → ℕ → ℕ → List ℕ → Result Unit PmtError → Type 0
+IsRunCaused told reads faults old new before id count given result = WhereWrites (told old) before (λ o adds. TakenFor told reads old new given
+    (λ taken. AddCauses compression.None (has_failed before) (run_size count (length given)) (RunFits o adds id count taken) (faults old) (faults new) result))

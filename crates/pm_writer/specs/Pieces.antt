@@ -1,7 +1,6 @@
 -- Pieces that are written to a medium.
 use Rattle.std.specs.Prelude.{◌≡◌, ◌⊎◌, ℕ, ◌+◌, List, ◌++◌, length, drop, slice_index, Result, Ok, Err}
-use Rattle.pm_writer.specs.Common.{PmtError, Rose, written}
-use Rattle.byte_media.specs.declared.medium.WriteFault.TheVariants as writes
+use Rattle.pm_writer.specs.Common.{PmtError, Rose}
 use Rattle.pm_format.specs.declared.error.PmtError.TheVariants as errors
 use Rattle.pm_format.specs.declared.error.ReadCause.TheVariants as causes
 

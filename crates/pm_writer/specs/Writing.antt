@@ -1,5 +1,5 @@
 -- What a writer has put onto its medium.
-use Rattle.std.specs.Prelude.{◌≡◌, ℕ, ◌+◌, ◌-◌, ◌<◌, ◌^◌, Bool, false, List, [], ◌∷◌, ◌++◌, length, replicate, flat_map, Option, IfSome, vec_len}
+use Rattle.std.specs.Prelude.{◌≡◌, ℕ, zero, suc, ◌+◌, ◌-◌, ◌<◌, ◌^◌, Bool, false, List, [], ◌∷◌, ◌++◌, length, replicate, flat_map, Option, IfSome, vec_len}
 use Rattle.pm_writer.specs.Common.{Finds, Options, vec_capacity, xxh3_64}
 use Rattle.pm_format.specs.declared.compression.Compression.TheVariants as compression
 use Rattle.pm_writer.specs.Adds.{contents_from}
@@ -32,6 +32,21 @@ add_to adds id (b ∷ bytes) = adds ++ (id, b ∷ bytes) ∷ []
 -- the data has fewer than 2^32 bytes, and doesn't end past u64
 abbrev pub AddFits : Options → List (ℕ × List ℕ) → ℕ → List ℕ → Type 0
 AddFits o adds id bytes = (length bytes < 2 ^ 32) × (data_end o (add_to adds id bytes) < 2 ^ 64)
+
+-- the same bytes at the ids of a run, one after another
+abbrev pub add_run_to : List (ℕ × List ℕ) → ℕ → ℕ → List ℕ → List (ℕ × List ℕ)
+add_run_to adds id zero bytes = adds
+add_run_to adds id (suc n) bytes = add_run_to (add_to adds id bytes) (id + 1) n bytes
+
+-- A run of at least one id fits where its first id does, since its bytes are stored once. A run of none has nothing
+-- that would have to fit, and no bytes.
+abbrev pub RunFits : Options → List (ℕ × List ℕ) → ℕ → ℕ → List ℕ → Type 0
+RunFits o adds id zero bytes = Unit {0}
+RunFits o adds id (suc n) bytes = AddFits o adds id bytes
+
+abbrev pub run_size : ℕ → ℕ → ℕ
+run_size zero size = 0
+run_size (suc n) size = size
 
 -- the state of a writer with these options
 pub record IsWriterOf (o : Options) (s : WriterState) : Type 0 where

@@ -5,7 +5,7 @@ ghost use Rattle.pm_writer.specs.Common.{vec_capacity, xxh3_64};
 ghost use Rattle.pm_writer.specs.Adding.{TakenFor};
 ghost use Rattle.pm_writer.specs.Adds.{contents_from, longest_run};
 ghost use Rattle.pm_writer.specs.Archive.{ids_of, rising};
-ghost use Rattle.pm_writer.specs.Growing.{grows, put};
+ghost use Rattle.pm_writer.specs.Growing.{grows, put_run, taken_by, with_run};
 ghost use Rattle.pm_writer.specs.Means.{Means, is_above};
 ghost use Rattle.pm_writer.specs.Took.{AreUnlike};
 
@@ -33,24 +33,59 @@ fn is_next(last: &DirEntry, id: u64, place: u64) -> bool
         && last.run_length() < u32::MAX
 }
 
-// Grows the last entry, or puts a new one behind it. Refused, it changes nothing.
-fn put_entry(entries: &mut Vec<DirEntry>, id: u64, place: u64, size: u32) -> Result<(), AllocError>
-    ensures ok { OnOk result (entries.new.items ≡ put longest_run id place size entries.old.items) }
+// How many ids of a run of the contents at the place the entry takes: what is left of its run, where it is the
+// one before the first id.
+fn take_ids(last: &DirEntry, id: u64, place: u64, count: u32) -> u32
+    ensures is { result ≡ taken_by longest_run id place count last.now }
+    ensures most { result ≤ count }
+    ensures within { last.now.run_length + result < 2 ^ 32 }
+{
+    let room = u32::MAX - last.run_length();
+    if is_next(last, id, place) {
+        return count.min(room);
+    }
+    0
+}
+
+// Grows the last entry by a run, and puts a new one of what it doesn't take behind it. Refused, it changes nothing.
+fn put_entry(
+    entries: &mut Vec<DirEntry>,
+    id: u64,
+    count: u32,
+    place: u64,
+    size: u32,
+) -> Result<(), AllocError>
+    requires some { 0 < count }
+    requires within { id + count ≤ MAX_TILE_ID + 1 }
+    ensures ok { OnOk result
+        (entries.new.items ≡ put_run longest_run id place size count entries.old.items) }
     ensures err { OnErr result (entries.new.items ≡ entries.old.items) }
     ensures full { OnErr result (vec_capacity entries.old ≤ vec_len entries.old) }
 {
-    let count = entries.len();
-    if count > 0 {
-        let last = entries[count - 1];
-        if is_next(&last, id, place) {
-            let grown = last.run_length() + 1;
-            entries[count - 1] = DirEntry::new(last.tile_id(), last.offset(), last.length(), grown);
-            return Ok(());
+    let len = entries.len();
+    if len == 0 {
+        if entries.push(DirEntry::new(id, place, size, count)).is_err() {
+            return Err(AllocError);
         }
+        return Ok(());
     }
-    if entries.push(DirEntry::new(id, place, size, 1)).is_err() {
-        return Err(AllocError);
+    let last = entries[len - 1];
+    let taken = take_ids(&last, id, place, count);
+    let grown = DirEntry::new(
+        last.tile_id(),
+        last.offset(),
+        last.length(),
+        last.run_length() + taken,
+    );
+    if taken < count {
+        let rest = DirEntry::new(id + u64::from(taken), place, size, count - taken);
+        if entries.push(rest).is_err() {
+            return Err(AllocError);
+        }
+        entries[len - 1] = grown;
+        return Ok(());
     }
+    entries[len - 1] = grown;
     Ok(())
 }
 
@@ -144,18 +179,20 @@ impl Adds {
         self.contents.seek(alloc, medium, from, digest, bytes)
     }
 
-    /// Adds bytes that were sought. New ones are written behind the others on the medium. Memory is taken before
-    /// anything is written. Refused, the adds are as before.
+    /// Adds bytes that were sought at each id of a run. New ones are written behind the others on the medium, once.
+    /// Memory is taken before anything is written. Refused, the adds are as before.
     pub(crate) fn add<M: Medium>(
         &mut self,
         medium: &mut M,
         from: u64,
         id: u64,
+        count: u32,
         bytes: &[u8],
         size: u32,
         sought: Sought,
     ) -> Result<(), WriteFault>
-        requires id { id ≤ MAX_TILE_ID }
+        requires counted { 0 < count }
+        requires id { id + count ≤ MAX_TILE_ID + 1 }
         requires some { 0 < length bytes.now }
         requires size { size ≡ length bytes.now }
         requires sought { IsSought xxh3_64 self.old.contents bytes.now sought }
@@ -164,12 +201,12 @@ impl Adds {
             < 2 ^ 64 }
         ensures added { (adds : List (ℕ × List ℕ)) (taken : List ℕ) → Means self.old adds
             → FoundAs xxh3_64 self.old.contents (contents_from [] adds) bytes.now sought taken
-            → OnOk result (Means self.new (adds ++ (id, taken) ∷ [])) }
+            → OnOk result (Means self.new (with_run adds id count taken)) }
         ensures finds { (adds : List (ℕ × List ℕ)) → Means self.old adds
             → Finds xxh3_64 self.old.contents (contents_from [] adds)
             → found_in (contents_from [] adds) bytes.now ≡ place_sought sought
             → OnOk result
-            (Finds xxh3_64 self.new.contents (contents_from [] (adds ++ (id, bytes.now) ∷ []))) }
+            (Finds xxh3_64 self.new.contents (contents_from [] (with_run adds id count bytes.now))) }
         ensures refused { (adds : List (ℕ × List ℕ)) → Means self.old adds
             → OnErr result (Means self.new adds) }
         ensures alike { OnErr result (IsAlike self.old.contents self.new.contents) }
@@ -184,11 +221,11 @@ impl Adds {
     {
         self.entries.reserve(1)?;
         let place = self.contents.put(medium, from, bytes, sought)?;
-        let Ok(()) = put_entry(&mut self.entries, id, place, size) else {
+        let Ok(()) = put_entry(&mut self.entries, id, count, place, size) else {
             unreachable!()
         };
         self.rises = still_rises(self.rises, self.last, id);
-        self.last = Some(id);
+        self.last = Some(id + u64::from(count - 1));
         Ok(())
     }
 

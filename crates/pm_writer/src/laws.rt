@@ -1,5 +1,6 @@
 // Laws of archives: facts about their definitions, as contracts of functions that do nothing.
-ghost use Rattle.std.specs.Prelude.{◌≡◌, ◌≢◌, ◌<◌, ◌≤◌, ◌+◌, ◌^◌, ℕ, true, List, [], ◌∷◌, ◌++◌, All, length, get_or, take, sum_by, slice_index, MatchOption, Ok, OnOk, IfOk, Err, false, Some, None};
+ghost use Rattle.std.specs.Prelude.{◌≡◌, ◌≢◌, ◌<◌, ◌≤◌, ◌+◌, ◌^◌, ℕ, true, List, [], ◌∷◌, ◌++◌, All, length, map, get_or, take, sum_by, slice_index, MatchOption, Ok, OnOk, IfOk, Err, false, Some, None};
+ghost use Rattle.std.specs.List.{range_with_len};
 ghost use Rattle.pm_writer.specs.Common.{AllAtMost, archive_map, archive_tile, below_root, Compression, ConsistsOf, data_of, data_part, dir_bytes, DirFits, entries, Entry, find, FinMap, from_entries};
 ghost use Rattle.pm_writer.specs.Common.{get, header_of, hops, is_sorted, MAX_TILE_ID, nat_cmp, opened, Options, PmtError, root_of, scan, WellFormed};
 ghost use Rattle.pm_format.specs.declared.compression.Compression.TheVariants as compression;
@@ -9,7 +10,7 @@ ghost use Rattle.pm_writer.specs.Archive.{archive, canon, ids_of, parts_of, risi
 ghost use Rattle.pm_writer.specs.Bounds.{AllLow, AllShort, AllSized, OptionsFit};
 ghost use Rattle.pm_writer.specs.Causes.{AddCauses, ArchiveFits, CreateCauses, FinishCauses};
 ghost use Rattle.pm_writer.specs.Few.{AreFew};
-ghost use Rattle.pm_writer.specs.Growing.{Separates, put};
+ghost use Rattle.pm_writer.specs.Growing.{Separates, put, put_run, with_run};
 ghost use Rattle.pm_writer.specs.Leaves.{laid, pieces};
 ghost use Rattle.pm_writer.specs.Maps.{Covers, Gives, IsIn, RisingAdds, Tiles};
 ghost use Rattle.pm_writer.specs.Pieces.{IsHidden, IsHiddenOr, PutCauses};
@@ -17,7 +18,7 @@ ghost use Rattle.pm_writer.specs.Places.{places_of, places_read};
 ghost use Rattle.pm_writer.specs.Through.{Rising, Through};
 ghost use Rattle.pm_writer.specs.TileEntries.{entries_read};
 ghost use Rattle.pm_writer.specs.Twice.{Distinct, adds_at, times};
-ghost use Rattle.pm_writer.specs.Writing.{AddFits};
+ghost use Rattle.pm_writer.specs.Writing.{AddFits, add_run_to};
 
 use pm_format::MAX_ROOT;
 
@@ -27,6 +28,19 @@ pub fn one_more_add()
         → Separates place adds a
         → unsorted place (adds ++ a ∷ [])
         ≡ put longest_run a.0 (place a.1) (length a.1) (unsorted place adds) }
+{}
+
+/// A run of adds grows the last entry until it is full, and one entry more has what is left of it: so do its ids, added
+/// one after another.
+pub fn run_of_adds()
+    ensures entries { (place : List ℕ → ℕ) (adds : List (ℕ × List ℕ)) (id n : ℕ) (bytes : List ℕ)
+        → Separates place adds (id, bytes) → 0 < n → n ≤ longest_run
+        → unsorted place (with_run adds id n bytes)
+        ≡ put_run longest_run id (place bytes) (length bytes) n (unsorted place adds) }
+    ensures turns { (adds : List (ℕ × List ℕ)) (id n : ℕ) (bytes : List ℕ)
+        → with_run adds id n bytes ≡ adds ++ map (λ i. (i, bytes)) (range_with_len id n) }
+    ensures adds { (adds : List (ℕ × List ℕ)) (id n : ℕ) (bytes : List ℕ) → 0 < length bytes
+        → add_run_to adds id n bytes ≡ adds ++ map (λ i. (i, bytes)) (range_with_len id n) }
 {}
 
 /// As many entries cover an id as adds are at it.

@@ -2,6 +2,7 @@
 #![tactic(auto)]
 
 mod adding;
+mod adding_runs;
 mod adds;
 mod builder;
 mod cutting;

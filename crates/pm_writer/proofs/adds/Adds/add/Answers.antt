@@ -1,6 +1,6 @@
-use Rattle.pm_writer.proofs.Common.{ap, arith, contents_from, err_from_is_err_and, Finds, holds_alike, length, longest_run, put, subst, sym, xxh3_64, [], ◌<◌, ◌∙◌}
-use Rattle.pm_writer.proofs.AfterAdd.{more_after}
-use Rattle.pm_writer.proofs.ContentLemmas.{contents_push}
+use Rattle.pm_writer.proofs.Common.{ap, arith, contents_from, err_from_is_err_and, Finds, holds_alike, length, longest_run, put_run, subst, sym, xxh3_64, [], ◌<◌, ◌∙◌, ◌≤◌}
+use Rattle.pm_writer.proofs.AfterAdd.{run_after}
+use Rattle.pm_writer.proofs.ContentLemmas.{contents_run}
 use Rattle.pm_writer.proofs.adds.Adds.add.Goals as goal
 
 pub returns-in_err-place-clause-refused : goal.returns-in_err-place-clause-refused
@@ -14,11 +14,12 @@ returns-in_err-place-clause-refused g c = λ adds m.
 pub returns-clause-added : goal.returns-clause-added
 returns-clause-added g c = λ adds taken m f.
     let cs = contents_from [] adds in
-    let entries = c.in-Ok.ensures.ok ∙ ap (put longest_run c.args.id c.in_ok-place.place c.args.size) c.in_ok-reserve.ensures.items in
+    let entries = c.in-Ok.ensures.ok ∙ ap (put_run longest_run c.args.id c.in_ok-place.place c.args.size c.args.count) c.in_ok-reserve.ensures.items in
     let some : 0 < length taken = omega (arith, f.size, c.requires.some) in
-    more_after adds c.args.self.now c.put.new.self c.put_entry.new.entries _ c.args.id c.in_ok-place.place c.args.size taken m
-    (c.in_ok-place.ensures.put xxh3_64 cs taken c.requires.sought m.contents f) (c.in_ok-place.ensures.place xxh3_64 cs taken m.contents f.found) some (c.requires.size ∙ sym f.size) c.ranges.size.fits c.requires.id entries c.still_rises-self.ensures
+    let most : c.args.count ≤ longest_run = omega (arith, c.ranges.count.fits) in
+    run_after adds c.args.self.now c.put.new.self c.put_entry.new.entries _ c.args.id c.args.count _ c.in_ok-place.place c.args.size taken m
+    (c.in_ok-place.ensures.put xxh3_64 cs taken c.requires.sought m.contents f) (c.in_ok-place.ensures.place xxh3_64 cs taken m.contents f.found) some (c.requires.size ∙ sym f.size) c.ranges.size.fits c.requires.counted most c.requires.id entries (omega (arith, c.requires.counted)) c.still_rises-self.ensures
 
 pub returns-clause-finds : goal.returns-clause-finds
 returns-clause-finds g c = λ adds m k f.
-    subst (Finds xxh3_64 c.put.new.self) (sym (contents_push [] adds (c.args.id, c.args.bytes.now))) (c.in_ok-place.ensures.finds xxh3_64 (contents_from [] adds) c.requires.sought m.contents k f)
+    subst (Finds xxh3_64 c.put.new.self) (sym (contents_run [] adds c.args.id c.args.count c.args.bytes.now c.requires.counted)) (c.in_ok-place.ensures.finds xxh3_64 (contents_from [] adds) c.requires.sought m.contents k f)

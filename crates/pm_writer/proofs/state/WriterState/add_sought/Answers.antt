@@ -19,7 +19,7 @@ returns-in-Ok-clause-added g c = λ o adds taken w t f.
     let end = ends_at o t0 s adds s.adds.contents.total w c.requires.alive refl in
     let same = took_length t0 x taken t in
     let fits = sought_fits o adds c.args.id at taken x c.args.sought end (omega arith) same f.found c.requires.fits in
-    (fits, added_writes o adds t0 t1 s c.add.new.self c.args.id at taken x c.args.sought w c.requires.alive end fits t f.found (c.in-Ok.ensures.added adds taken means f) (λ k q. c.in-Ok.ensures.finds adds means k q) c.in-Ok.ensures.leaves)
+    (fits, added_writes o adds t0 t1 s c.add.new.self c.args.id c.args.count at taken x c.args.sought w c.requires.alive end c.requires.counted fits t f.found (c.in-Ok.ensures.added adds taken means f) (λ k q. c.in-Ok.ensures.finds adds means k q) c.in-Ok.ensures.leaves)
 
 pub returns-in-Err-OutOfMemory-clause-refused : goal.returns-in-Err-OutOfMemory-clause-refused
 returns-in-Err-OutOfMemory-clause-refused g c = λ o adds w.
