@@ -68,7 +68,7 @@ pub new_long : (o : Options) (adds : List (ℕ × List ℕ)) (id at size : ℕ) 
 new_long o adds id at size x e n new long fits = omega (arith, fits.1, end_more o adds id x, ap length (fresh_new (contents_from [] adds) x new), e, n, long)
 
 -- a run of the same bytes has the contents of its first id, so it ends there
-data_run : (adds : List (ℕ × List ℕ)) (id n : ℕ) (bytes : List ℕ) → 0 < n → data_of (with_run adds id n bytes) ≡ data_of (adds ++ (id, bytes) ∷ [])
+pub data_run : (adds : List (ℕ × List ℕ)) (id n : ℕ) (bytes : List ℕ) → 0 < n → data_of (with_run adds id n bytes) ≡ data_of (adds ++ (id, bytes) ∷ [])
 data_run adds id n bytes some = ap (flat_map (λ c. c)) (contents_run [] adds id n bytes some ∙ sym (contents_push [] adds (id, bytes)))
 
 -- the writer with a run more
