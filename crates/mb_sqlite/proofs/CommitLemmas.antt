@@ -1,5 +1,5 @@
 -- Calls in a row that commit nothing, or once.
-use Rattle.mb_sqlite.proofs.Common.{arith, begun, Commits, CommitsNothing, CommitsOnce, Error, FailsToCommit, false, Ghosts, HasCleanDisk, Held, inl, inr, IsRolledBack, keeps_then, KeepsCommitted}
+use Rattle.mb_sqlite.proofs.Common.{arith, begun, Commits, CommitsNothing, CommitsOnce, Error, FailsToCommit, false, Ghosts, HasCleanDisk, Held, inl, inr, IsRolledBack, keeps_then, KeepsCommitted, KeepsInside}
 use Rattle.mb_sqlite.proofs.Common.{refl, Shows, state, subst, Survives, sym, Trees, true, unchanged_keeps, Within, ◌≡◌}
 use Rattle.sqlite.proofs.Callers.{survives_begin}
 use Rattle.sqlite.proofs.StateLemmas.{survives_then, survives_weaker}
@@ -10,12 +10,6 @@ module _ {S : Type 0} (g : Ghosts S) where
 
   pub nothing_then : (a b c : Held S) → CommitsNothing g a b → CommitsNothing g b c → CommitsNothing g a c
   nothing_then a b c one two = survives_then (state g a) (state g b) (state g c) _ _ _ (λ _ db none. none) (λ _ db none. none) one two
-
-  pub kept_yet : (h : Held S) → KeepsCommitted g h h
-  kept_yet h clean = record { was_open = λ k. k; committed = λ _. refl }
-
-  pub kept_then : (a b c : Held S) → CommitsNothing g b c → KeepsCommitted g a b → KeepsCommitted g b c → KeepsCommitted g a c
-  kept_then a b c step one two clean = keeps_then (state g a) (state g b) (state g c) (one (omega (arith, step.clean))) (two clean)
 
   -- what is seen in a transaction that is rolled back
   pub seen_within : (P : Held S → Held S → Type 0) (old begun mid end : Held S) → begun ≡ record old { in_transaction = true } → (HasCleanDisk (state g mid) → P begun mid) → CommitsNothing g mid end → HasCleanDisk (state g end) → Within old P
@@ -30,18 +24,18 @@ module _ {S : Type 0} (g : Ghosts S) where
   undone_nothing old mid end inside last =
       survives_then (state g old) (state g mid) (state g end) _ _ _ (λ _ db none. none) (λ _ db none. none) (survives_begin g old (state g mid) _ inside) last
 
-  pub undone_keeps : (old mid end : Held S) → KeepsCommitted g (record old { in_transaction = true }) mid → CommitsNothing g mid end
+  pub undone_keeps : (old mid end : Held S) → KeepsInside g (begun old) mid → CommitsNothing g mid end
       → (HasCleanDisk (state g end) → IsRolledBack (state g mid) (state g end)) → KeepsCommitted g old end
   undone_keeps old mid end kept last undone clean =
-      let was = kept (omega (arith, last.clean)) in
+      let was = kept (omega (arith, last.clean)) refl in
       keeps_then (state g old) (state g mid) (state g end) (record { was_open = was.was_open; committed = was.committed })
       (unchanged_keeps (state g mid) (state g end) (inr (undone clean)))
 
   -- a transaction that isn't committed
-  pub failed_keeps : (old mid end : Held S) (P : Trees → Type 0) (e : Error) → KeepsCommitted g (record old { in_transaction = true }) mid → Survives (state g mid) (state g end) P
+  pub failed_keeps : (old mid end : Held S) (P : Trees → Type 0) (e : Error) → KeepsInside g (begun old) mid → Survives (state g mid) (state g end) P
       → (HasCleanDisk (state g end) → FailsToCommit (state g mid) (state g end) e) → KeepsCommitted g old end
   failed_keeps old mid end P e kept last failed clean =
-      let was = kept (omega (arith, last.clean)) in
+      let was = kept (omega (arith, last.clean)) refl in
       keeps_then (state g old) (state g mid) (state g end) (record { was_open = was.was_open; committed = was.committed })
       (unchanged_keeps (state g mid) (state g end) (elim (failed clean) [ inl fails ↦ inr fails.3 | inr late ↦ inl late.2 ]))
 

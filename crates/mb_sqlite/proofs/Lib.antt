@@ -1,6 +1,7 @@
 mod Common
 mod AskingLemmas
 pub mod CommitLemmas
+mod KeepingLemmas
 mod PassingLemmas
 mod ReadingLemmas
 mod ReadyLemmas

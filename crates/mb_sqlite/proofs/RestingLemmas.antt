@@ -1,5 +1,5 @@
 -- What calls in a row leave of a transaction, and what it leaves when it ends.
-use Rattle.mb_sqlite.proofs.Common.{arith, begun, both_ways, CommitsNothing, Error, FailsToCommit, false, Ghosts, HasCleanDisk, Held, inl, inr, IsRolledBack, keeps_then, KeepsCommitted, KeepsInside}
+use Rattle.mb_sqlite.proofs.Common.{arith, begun, both_ways, CommitsNothing, Error, FailsToCommit, false, Ghosts, HasCleanDisk, Held, inl, inr, IsRolledBack, keeps_then, KeepsInside}
 use Rattle.mb_sqlite.proofs.Common.{refl, Rests, state, StaysInside, subst, Survives, Trees, ◌∙◌, ◌≡◌}
 
 module _ {S : Type 0} (g : Ghosts S) where
@@ -16,9 +16,6 @@ module _ {S : Type 0} (g : Ghosts S) where
 
   pub stays_then : (a b c : Held S) → CommitsNothing g b c → StaysInside g a b → StaysInside g b c → StaysInside g a c
   stays_then a b c step one two clean inside = two clean (one (omega (arith, clean, step.clean)) inside)
-
-  pub kept_inside : (a b : Held S) → KeepsCommitted g a b → KeepsInside g a b
-  kept_inside a b kept clean inside = kept clean
 
   -- a transaction that is rolled back
   pub rests_undone : (old mid end : Held S) → KeepsInside g (begun old) mid → CommitsNothing g mid end → (HasCleanDisk (state g end) → IsRolledBack (state g mid) (state g end)) → end.in_transaction ≡ false → Rests g old end

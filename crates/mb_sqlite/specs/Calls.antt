@@ -1,6 +1,8 @@
 -- What the calls of a store have in common, as words over the store before and after a call.
-use Rattle.std.specs.Prelude.{Bool, true, ◌≡◌, List}
-use Rattle.mb_sqlite.specs.Common.{Change, Ghosts, Held, is_table, set_tables, TableName}
+use Rattle.std.specs.Prelude.{Bool, true, ◌≡◌, ◌≤◌, IsErrOf, List, OnOk, Result}
+use Rattle.mb_sqlite.specs.Common.{Change, FaultsCounted, Ghosts, Held, is_table, set_tables, TableName}
+use Rattle.mb_store.specs.declared.store.StoreError.{StoreError}
+use Rattle.mb_store.specs.declared.store.StoreError.TheVariants.{Fault}
 use Rattle.mb_sqlite.specs.Committing.{CommitsNothing, CommitsOnce, IsReady, Leaves, MakesChanges, OnceReady, RefusesCommit, Sees}
 use Rattle.mb_sqlite.specs.Making.{AreChanged, AreMade, begun}
 use Rattle.mb_sqlite.specs.declared.store.SqliteStore.{SqliteStore}
@@ -30,6 +32,18 @@ module _ {S : Type 0} (g : Ghosts S) where
     -- what a call leaves that commits no changes
     abbrev pub LeavesStore : Type 0
     LeavesStore = Leaves g s.layout s.is_made t.is_made s.connection t.connection
+
+    -- What each call but `commit` keeps: the layout, and at most the tables that weren't there are committed, which are
+    -- held for made at Ok. A fault is counted, and one is a connection that is inside a transaction.
+    pub record ReadsStore {A : Type 0} (result : Result A StoreError) : Type 0 where
+      pub once : MakesOnce
+      pub survives : OnlyMakes
+      pub leaves : LeavesStore
+      pub inside : IsInside s → IsErrOf result Fault
+      pub layout : t.layout ≡ s.layout
+      pub made : OnOk result (t.is_made ≡ true)
+      pub faults : s.faults ≤ t.faults
+      pub fault : FaultsCounted (λ s. s.faults) s t result Fault
 
     -- this is seen in a transaction, once the tables are there
     abbrev pub Saw : (Held S → Held S → Type 0) → Type 0

@@ -7,6 +7,7 @@ pub mod Reading
 pub mod Making
 pub mod Cursor
 pub mod Resting
+pub mod Keeping
 pub mod Failing
 pub mod Sizing
 pub mod Calls

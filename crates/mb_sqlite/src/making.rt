@@ -1,9 +1,10 @@
 // Making the tables and views of a layout that aren't there.
 ghost use Rattle.std.specs.Prelude.{◌≡◌, Ok, false, true, IfOk, IsErrOf, MatchBool, OnErr, OnOk};
-ghost use Rattle.mb_sqlite.specs.Committing.{CommitsNothing, CommitsOnce};
+ghost use Rattle.mb_sqlite.specs.Committing.{CommitsOnce};
 ghost use Rattle.mb_sqlite.specs.Creation.{making_order};
+ghost use Rattle.mb_sqlite.specs.Keeping.{GoesOn};
 ghost use Rattle.mb_sqlite.specs.Making.{AreMade, ArePassed, ArePrepared, Arises, IsThere, Stays, begun};
-ghost use Rattle.mb_sqlite.specs.Resting.{IfClean, KeepsInside, Rests, StaysInside};
+ghost use Rattle.mb_sqlite.specs.Resting.{IfClean, Rests};
 
 use crate::failure::Failure;
 use crate::layout::{TABLES, making_of};
@@ -20,10 +21,7 @@ fn is_there<S: Alter>(
     table: TableName,
 ) -> Result<bool, Failure>
     ensures same_reference { transaction.new.conn.ghost_name ≡ transaction.old.conn.ghost_name }
-    ensures survives { CommitsNothing S.Store transaction.old.conn.now transaction.new.conn.now }
-    ensures kept { KeepsInside S.Store transaction.old.conn.now transaction.new.conn.now }
-    ensures inside { OnOk result
-        (StaysInside S.Store transaction.old.conn.now transaction.new.conn.now) }
+    ensures kept { GoesOn S.Store transaction.old.conn.now transaction.new.conn.now result }
     ensures there { IfClean S.Store transaction.new.conn.now (IfOk result
         (λ there. IsThere S.Store table there transaction.old.conn.now transaction.new.conn.now)) }
 {
@@ -39,10 +37,7 @@ fn make_table<S: Alter>(
     table: TableName,
 ) -> Result<bool, Failure>
     ensures same_reference { transaction.new.conn.ghost_name ≡ transaction.old.conn.ghost_name }
-    ensures survives { CommitsNothing S.Store transaction.old.conn.now transaction.new.conn.now }
-    ensures kept { KeepsInside S.Store transaction.old.conn.now transaction.new.conn.now }
-    ensures inside { OnOk result
-        (StaysInside S.Store transaction.old.conn.now transaction.new.conn.now) }
+    ensures kept { GoesOn S.Store transaction.old.conn.now transaction.new.conn.now result }
     ensures passed { IfClean S.Store transaction.new.conn.now (IfOk result
         (λ made. MatchBool made
         (Arises S.Store layout table transaction.old.conn.now transaction.new.conn.now)
@@ -66,10 +61,7 @@ fn make_missing<S: Alter>(
     layout: MbtType,
 ) -> Result<bool, Failure>
     ensures same_reference { transaction.new.conn.ghost_name ≡ transaction.old.conn.ghost_name }
-    ensures survives { CommitsNothing S.Store transaction.old.conn.now transaction.new.conn.now }
-    ensures kept { KeepsInside S.Store transaction.old.conn.now transaction.new.conn.now }
-    ensures inside { OnOk result
-        (StaysInside S.Store transaction.old.conn.now transaction.new.conn.now) }
+    ensures kept { GoesOn S.Store transaction.old.conn.now transaction.new.conn.now result }
     ensures passed { IfClean S.Store transaction.new.conn.now (IfOk result
         (λ made. ArePassed S.Store layout making_order made transaction.old.conn.now
         transaction.new.conn.now)) }

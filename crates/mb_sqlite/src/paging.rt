@@ -1,9 +1,9 @@
 // Reading a table page by page inside a transaction.
-ghost use Rattle.std.specs.Prelude.{◌≡◌, ◌≤◌, ◌+◌, true, All, IfOk, OnOk, drop, length, take};
+ghost use Rattle.std.specs.Prelude.{◌≡◌, ◌≤◌, ◌+◌, true, All, IfOk, drop, length, take};
 ghost use Rattle.mb_sqlite.specs.Common.{AllZip, column, width};
 ghost use Rattle.sqlite_value.specs.declared.value.Value.TheVariants as sql;
-ghost use Rattle.mb_sqlite.specs.Committing.{CommitsNothing};
-ghost use Rattle.mb_sqlite.specs.Resting.{IfClean, KeepsInside, StaysInside};
+ghost use Rattle.mb_sqlite.specs.Keeping.{GoesOn};
+ghost use Rattle.mb_sqlite.specs.Resting.{IfClean};
 ghost use Rattle.mb_sqlite.specs.Reading.{ArePaged, AreShown, IsRowOf, RisesTo, is_above, sql_number};
 
 use crate::failure::Failure;
@@ -40,10 +40,7 @@ pub(crate) fn answers<S: Alter>(
     limit: u64,
 ) -> Result<Vec<sqlite::Row>, Failure>
     ensures same_reference { transaction.new.conn.ghost_name ≡ transaction.old.conn.ghost_name }
-    ensures survives { CommitsNothing S.Store transaction.old.conn.now transaction.new.conn.now }
-    ensures kept { KeepsInside S.Store transaction.old.conn.now transaction.new.conn.now }
-    ensures inside { OnOk result
-        (StaysInside S.Store transaction.old.conn.now transaction.new.conn.now) }
+    ensures kept { GoesOn S.Store transaction.old.conn.now transaction.new.conn.now result }
     ensures shown { IfClean S.Store transaction.new.conn.now (IfOk result
         (λ rows. AreShown S.Store table transaction.old.conn.now transaction.new.conn.now from
         passed (limit + 1) rows.items)) }
@@ -131,10 +128,7 @@ pub(crate) fn page<S: Alter>(
     ensures widths { IfOk result (λ page. All (λ row. length row ≡ width table) page.0.items) }
     ensures limit { IfOk result (λ page. length page.0.items ≤ limit) }
     ensures same_reference { transaction.new.conn.ghost_name ≡ transaction.old.conn.ghost_name }
-    ensures survives { CommitsNothing S.Store transaction.old.conn.now transaction.new.conn.now }
-    ensures kept { KeepsInside S.Store transaction.old.conn.now transaction.new.conn.now }
-    ensures inside { OnOk result
-        (StaysInside S.Store transaction.old.conn.now transaction.new.conn.now) }
+    ensures kept { GoesOn S.Store transaction.old.conn.now transaction.new.conn.now result }
     ensures paged { IfClean S.Store transaction.new.conn.now (IfOk result
         (λ page. ArePaged S.Store table transaction.old.conn.now transaction.new.conn.now start
         limit page.0.items page.1)) }

@@ -1,8 +1,8 @@
 // Questions to the database inside a transaction.
-ghost use Rattle.std.specs.Prelude.{◌≡◌, Ok, IfOk, IfSome, OnOk, length};
+ghost use Rattle.std.specs.Prelude.{◌≡◌, Ok, IfOk, IfSome, length};
 ghost use Rattle.mb_sqlite.specs.Common.{bound, QueriesRowInside, Shown, state, width};
-ghost use Rattle.mb_sqlite.specs.Committing.{CommitsNothing};
-ghost use Rattle.mb_sqlite.specs.Resting.{IfClean, KeepsInside, StaysInside};
+ghost use Rattle.mb_sqlite.specs.Keeping.{GoesOn};
+ghost use Rattle.mb_sqlite.specs.Resting.{IfClean};
 ghost use Rattle.mb_sqlite.specs.Reading.{IsCounted, IsFirst, IsFound};
 
 use crate::failure::Failure;
@@ -20,10 +20,7 @@ pub(crate) fn ask<S: Alter>(
     values: &[ValueRef<'_>],
 ) -> Result<Vec<sqlite::Row>, Failure>
     ensures same_reference { transaction.new.conn.ghost_name ≡ transaction.old.conn.ghost_name }
-    ensures survives { CommitsNothing S.Store transaction.old.conn.now transaction.new.conn.now }
-    ensures kept { KeepsInside S.Store transaction.old.conn.now transaction.new.conn.now }
-    ensures inside { OnOk result
-        (StaysInside S.Store transaction.old.conn.now transaction.new.conn.now) }
+    ensures kept { GoesOn S.Store transaction.old.conn.now transaction.new.conn.now result }
     ensures shown { IfClean S.Store transaction.new.conn.now (IfOk result
         (λ rows. Shown text.now (bound values.now) (state S.Store transaction.old.conn.now)
         (state S.Store transaction.new.conn.now) rows.items)) }
@@ -39,10 +36,7 @@ pub(crate) fn ask_row<S: Alter>(
     values: &[ValueRef<'_>],
 ) -> Result<sqlite::Row, Failure>
     ensures same_reference { transaction.new.conn.ghost_name ≡ transaction.old.conn.ghost_name }
-    ensures survives { CommitsNothing S.Store transaction.old.conn.now transaction.new.conn.now }
-    ensures kept { KeepsInside S.Store transaction.old.conn.now transaction.new.conn.now }
-    ensures inside { OnOk result
-        (StaysInside S.Store transaction.old.conn.now transaction.new.conn.now) }
+    ensures kept { GoesOn S.Store transaction.old.conn.now transaction.new.conn.now result }
     ensures row { IfClean S.Store transaction.new.conn.now (IfOk result
         (λ row. QueriesRowInside text.now (bound values.now)
         (state S.Store transaction.old.conn.now) (state S.Store transaction.new.conn.now)
@@ -58,10 +52,7 @@ pub(crate) fn count<S: Alter>(
     table: TableName,
 ) -> Result<u64, Failure>
     ensures same_reference { transaction.new.conn.ghost_name ≡ transaction.old.conn.ghost_name }
-    ensures survives { CommitsNothing S.Store transaction.old.conn.now transaction.new.conn.now }
-    ensures kept { KeepsInside S.Store transaction.old.conn.now transaction.new.conn.now }
-    ensures inside { OnOk result
-        (StaysInside S.Store transaction.old.conn.now transaction.new.conn.now) }
+    ensures kept { GoesOn S.Store transaction.old.conn.now transaction.new.conn.now result }
     ensures counted { IfClean S.Store transaction.new.conn.now
         (IfOk result (IsCounted S.Store table transaction.old.conn.now transaction.new.conn.now)) }
 {
@@ -78,10 +69,7 @@ fn first<S: Alter>(
 ) -> Result<Option<Row>, Failure>
     ensures widths { IfOk result (λ row. IfSome row (λ row. length row ≡ width table)) }
     ensures same_reference { transaction.new.conn.ghost_name ≡ transaction.old.conn.ghost_name }
-    ensures survives { CommitsNothing S.Store transaction.old.conn.now transaction.new.conn.now }
-    ensures kept { KeepsInside S.Store transaction.old.conn.now transaction.new.conn.now }
-    ensures inside { OnOk result
-        (StaysInside S.Store transaction.old.conn.now transaction.new.conn.now) }
+    ensures kept { GoesOn S.Store transaction.old.conn.now transaction.new.conn.now result }
     ensures first { IfClean S.Store transaction.new.conn.now
         (IfOk result (IsFirst S.Store table transaction.old.conn.now transaction.new.conn.now
         (bound key.now))) }
@@ -102,10 +90,7 @@ pub(crate) fn find<S: Alter>(
 ) -> Result<Option<Row>, Failure>
     ensures widths { IfOk result (λ row. IfSome row (λ row. length row ≡ width table)) }
     ensures same_reference { transaction.new.conn.ghost_name ≡ transaction.old.conn.ghost_name }
-    ensures survives { CommitsNothing S.Store transaction.old.conn.now transaction.new.conn.now }
-    ensures kept { KeepsInside S.Store transaction.old.conn.now transaction.new.conn.now }
-    ensures inside { OnOk result
-        (StaysInside S.Store transaction.old.conn.now transaction.new.conn.now) }
+    ensures kept { GoesOn S.Store transaction.old.conn.now transaction.new.conn.now result }
     ensures found { IfClean S.Store transaction.new.conn.now
         (IfOk result (IsFound S.Store table transaction.old.conn.now transaction.new.conn.now
         key.now)) }

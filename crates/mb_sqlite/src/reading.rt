@@ -1,8 +1,8 @@
 // Reading the database. Each call reads in a transaction that is rolled back, so that it commits nothing.
-ghost use Rattle.std.specs.Prelude.{◌≡◌, ◌≤◌, true, All, IfOk, IfSome, IsErrOf, OnErr, length};
+ghost use Rattle.std.specs.Prelude.{◌≡◌, ◌≤◌, All, IfOk, IfSome, OnErr, length};
 ghost use Rattle.mb_sqlite.specs.Common.{width};
-ghost use Rattle.mb_sqlite.specs.Committing.{CommitsNothing};
-ghost use Rattle.mb_sqlite.specs.Resting.{IdleRests, IfClean};
+ghost use Rattle.mb_sqlite.specs.Keeping.{OnlyReads};
+ghost use Rattle.mb_sqlite.specs.Resting.{IfClean};
 ghost use Rattle.mb_sqlite.specs.Sizing.{IsLiveSize};
 ghost use Rattle.mb_sqlite.specs.Cursor.{MovesPast};
 ghost use Rattle.mb_sqlite.specs.Reading.{ArePaged, IsCounted, IsFound, Within};
@@ -19,10 +19,7 @@ pub(crate) fn count<S: Alter>(
     connection: &mut Connection<S>,
     table: TableName,
 ) -> Result<u64, Failure>
-    ensures survives { CommitsNothing S.Store connection.old connection.new }
-    ensures inside { connection.old.in_transaction ≡ true → IsErrOf result Failure.Fault
-        × (connection.new ≡ connection.old) }
-    ensures rests { IdleRests S.Store connection.old connection.new }
+    ensures kept { OnlyReads S.Store connection.old connection.new result }
     ensures counted { IfClean S.Store connection.new (IfOk result
         (λ count. Within connection.old (λ old seen. IsCounted S.Store table old seen count))) }
 {
@@ -45,15 +42,12 @@ pub(crate) fn page<S: Alter>(
 ) -> Result<Vec<Row>, Failure>
     ensures widths { IfOk result (λ rows. All (λ row. length row ≡ width table) rows.items) }
     ensures limit { IfOk result (λ rows. length rows.items ≤ limit) }
-    ensures survives { CommitsNothing S.Store connection.old connection.new }
-    ensures inside { connection.old.in_transaction ≡ true → IsErrOf result Failure.Fault
-        × (connection.new ≡ connection.old) }
-    ensures rests { IdleRests S.Store connection.old connection.new }
+    ensures kept { OnlyReads S.Store connection.old connection.new result }
     ensures paged { IfClean S.Store connection.new (IfOk result
         (λ rows. Within connection.old
         (λ old seen. MovesPast S.Store table old seen from limit cursor.old cursor.new
         rows.items))) }
-    ensures kept { OnErr result (cursor.new ≡ cursor.old) }
+    ensures cursor { OnErr result (cursor.new ≡ cursor.old) }
 {
     let start = start_of(*cursor, table, from);
     let page = page_after(alloc, connection, table, start, limit)?;
@@ -71,10 +65,7 @@ fn page_after<S: Alter>(
 ) -> Result<(Vec<Row>, Option<i64>), Failure>
     ensures widths { IfOk result (λ page. All (λ row. length row ≡ width table) page.0.items) }
     ensures limit { IfOk result (λ page. length page.0.items ≤ limit) }
-    ensures survives { CommitsNothing S.Store connection.old connection.new }
-    ensures inside { connection.old.in_transaction ≡ true → IsErrOf result Failure.Fault
-        × (connection.new ≡ connection.old) }
-    ensures rests { IdleRests S.Store connection.old connection.new }
+    ensures kept { OnlyReads S.Store connection.old connection.new result }
     ensures paged { IfClean S.Store connection.new (IfOk result
         (λ page. Within connection.old
         (λ old seen. ArePaged S.Store table old seen start limit page.0.items page.1))) }
@@ -95,10 +86,7 @@ pub(crate) fn find<S: Alter>(
     key: &RowKey,
 ) -> Result<Option<Row>, Failure>
     ensures widths { IfOk result (λ row. IfSome row (λ row. length row ≡ width table)) }
-    ensures survives { CommitsNothing S.Store connection.old connection.new }
-    ensures inside { connection.old.in_transaction ≡ true → IsErrOf result Failure.Fault
-        × (connection.new ≡ connection.old) }
-    ensures rests { IdleRests S.Store connection.old connection.new }
+    ensures kept { OnlyReads S.Store connection.old connection.new result }
     ensures found { IfClean S.Store connection.new (IfOk result
         (λ row. Within connection.old (λ old seen. IsFound S.Store table old seen key.now row))) }
 {
@@ -115,12 +103,9 @@ pub(crate) fn size<S: Alter>(
     connection: &mut Connection<S>,
     layout: MbtType,
 ) -> Result<u64, Failure>
-    ensures survives { CommitsNothing S.Store connection.old connection.new }
+    ensures kept { OnlyReads S.Store connection.old connection.new result }
     ensures sized { IfClean S.Store connection.new (IfOk result
         (λ size. Within connection.old (λ old seen. IsLiveSize S.Store layout old seen size))) }
-    ensures inside { connection.old.in_transaction ≡ true → IsErrOf result Failure.Fault
-        × (connection.new ≡ connection.old) }
-    ensures rests { IdleRests S.Store connection.old connection.new }
 {
     if !connection.is_autocommit() {
         return Err(Failure::Fault);

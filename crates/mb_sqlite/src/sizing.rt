@@ -1,10 +1,10 @@
 // How much the tables hold, inside a transaction.
-ghost use Rattle.std.specs.Prelude.{◌≡◌, ◌+◌, ◌-◌, ◌^◌, ◌==◌, List, IfOk, MatchBool, OnOk, drop, length, min, sum_by, take};
+ghost use Rattle.std.specs.Prelude.{◌≡◌, ◌+◌, ◌-◌, ◌^◌, ◌==◌, List, IfOk, MatchBool, drop, length, min, sum_by, take};
 ghost use Rattle.sqlite_value.specs.Order as sql;
 ghost use Rattle.mb_sqlite.specs.Common.{is_table, set_tables};
-ghost use Rattle.mb_sqlite.specs.Committing.{CommitsNothing};
+ghost use Rattle.mb_sqlite.specs.Keeping.{GoesOn};
 ghost use Rattle.mb_sqlite.specs.Reading.{AreRead, RisesTo};
-ghost use Rattle.mb_sqlite.specs.Resting.{IfClean, KeepsInside, StaysInside};
+ghost use Rattle.mb_sqlite.specs.Resting.{IfClean};
 ghost use Rattle.mb_sqlite.specs.Sizing.{IsLiveSize, IsTableSize, answer_size, piece, piece_size};
 
 use crate::failure::Failure;
@@ -57,10 +57,7 @@ fn with_piece<S: Alter>(
     from: Option<i64>,
 ) -> Result<(u64, Option<i64>, bool), Failure>
     ensures same_reference { transaction.new.conn.ghost_name ≡ transaction.old.conn.ghost_name }
-    ensures survives { CommitsNothing S.Store transaction.old.conn.now transaction.new.conn.now }
-    ensures kept { KeepsInside S.Store transaction.old.conn.now transaction.new.conn.now }
-    ensures inside { OnOk result
-        (StaysInside S.Store transaction.old.conn.now transaction.new.conn.now) }
+    ensures kept { GoesOn S.Store transaction.old.conn.now transaction.new.conn.now result }
     ensures piece { IfClean S.Store transaction.new.conn.now (IfOk result
         (λ next. (found : List sql.Row)
         × AreRead S.Store table transaction.old.conn.now transaction.new.conn.now (from, 0) piece
@@ -79,10 +76,7 @@ fn with_table<S: Alter>(
     table: TableName,
 ) -> Result<u64, Failure>
     ensures same_reference { transaction.new.conn.ghost_name ≡ transaction.old.conn.ghost_name }
-    ensures survives { CommitsNothing S.Store transaction.old.conn.now transaction.new.conn.now }
-    ensures kept { KeepsInside S.Store transaction.old.conn.now transaction.new.conn.now }
-    ensures inside { OnOk result
-        (StaysInside S.Store transaction.old.conn.now transaction.new.conn.now) }
+    ensures kept { GoesOn S.Store transaction.old.conn.now transaction.new.conn.now result }
     ensures table { IfClean S.Store transaction.new.conn.now (IfOk result
         (λ sum. (total : _)
         × IsTableSize S.Store table transaction.old.conn.now transaction.new.conn.now total
@@ -109,10 +103,7 @@ fn with_layout_table<S: Alter>(
     table: TableName,
 ) -> Result<u64, Failure>
     ensures same_reference { transaction.new.conn.ghost_name ≡ transaction.old.conn.ghost_name }
-    ensures survives { CommitsNothing S.Store transaction.old.conn.now transaction.new.conn.now }
-    ensures kept { KeepsInside S.Store transaction.old.conn.now transaction.new.conn.now }
-    ensures inside { OnOk result
-        (StaysInside S.Store transaction.old.conn.now transaction.new.conn.now) }
+    ensures kept { GoesOn S.Store transaction.old.conn.now transaction.new.conn.now result }
     ensures table { IfClean S.Store transaction.new.conn.now (IfOk result
         (λ sum. MatchBool (is_table (set_tables layout) table) ((total : _)
         × IsTableSize S.Store table transaction.old.conn.now transaction.new.conn.now total
@@ -132,10 +123,7 @@ pub(crate) fn size<S: Alter>(
     layout: MbtType,
 ) -> Result<u64, Failure>
     ensures same_reference { transaction.new.conn.ghost_name ≡ transaction.old.conn.ghost_name }
-    ensures survives { CommitsNothing S.Store transaction.old.conn.now transaction.new.conn.now }
-    ensures kept { KeepsInside S.Store transaction.old.conn.now transaction.new.conn.now }
-    ensures inside { OnOk result
-        (StaysInside S.Store transaction.old.conn.now transaction.new.conn.now) }
+    ensures kept { GoesOn S.Store transaction.old.conn.now transaction.new.conn.now result }
     ensures size { IfClean S.Store transaction.new.conn.now
         (IfOk result (IsLiveSize S.Store layout transaction.old.conn.now
         transaction.new.conn.now)) }

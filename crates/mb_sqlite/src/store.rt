@@ -1,7 +1,7 @@
 // A store over a database.
 ghost use Rattle.std.specs.Prelude.{◌≡◌, ◌≤◌, false, true, [], All, IfOk, IfSome, IsErrOf, OnErr, OnOk, length};
 ghost use Rattle.mb_sqlite.specs.Common.{FaultsCounted, set_tables, width};
-ghost use Rattle.mb_sqlite.specs.Calls.{ChangesOnce, CommitsChanges, HasTable, IsInside, IsPrepared, LeavesStore, MakesOnce, OnlyMakes, RefusesStore, Saw};
+ghost use Rattle.mb_sqlite.specs.Calls.{ChangesOnce, CommitsChanges, HasTable, IsInside, IsPrepared, ReadsStore, RefusesStore, Saw};
 ghost use Rattle.mb_sqlite.specs.Committing.{KeepsCommitted};
 ghost use Rattle.mb_sqlite.specs.Creation.{are_named};
 ghost use Rattle.mb_sqlite.specs.Cursor.{MovesPast};
@@ -68,19 +68,13 @@ impl<S: Alter> SqliteStore<S> {
 
     // Makes the tables that aren't there, at the first call. A connection in a transaction is a fault.
     fn begin(&mut self) -> Result<(), StoreError>
-        ensures made { OnOk result (self.new.is_made ≡ true) }
         ensures same { self.old.is_made ≡ true → self.new.connection ≡ self.old.connection }
-        ensures once { MakesOnce S.Store self.old self.new }
         ensures ready { OnOk result (IsPrepared S.Store self.old self.new) }
         ensures outside { OnOk result (self.old.connection.in_transaction ≡ false) }
         ensures ended { OnOk result (self.new.connection.in_transaction ≡ false) }
-        ensures inside { IsInside self.old → IsErrOf result StoreError.Fault }
         ensures alone { IsInside self.old → self.new.connection ≡ self.old.connection }
-        ensures leaves { LeavesStore S.Store self.old self.new }
-        ensures layout { self.new.layout ≡ self.old.layout }
         ensures cursor { self.new.cursor ≡ self.old.cursor }
-        ensures faults { self.old.faults ≤ self.new.faults }
-        ensures fault { FaultsCounted (λ s. s.faults) self.old self.new result StoreError.Fault }
+        ensures kept { ReadsStore S.Store self.old self.new result }
     {
         if !self.connection.is_autocommit() {
             return counted(&mut self.faults, Err(Failure::Fault));
@@ -125,34 +119,21 @@ impl<S: Alter> TileStore for SqliteStore<S> {
     /// The descriptions of the layout's tables and views and of its metadata, whatever the database has.
     fn describe(&mut self, alloc: Global) -> Result<Vec<TableDesc>, StoreError>
         ensures described { IfOk result (λ tables. tables.items ≡ set_tables self.old.layout) }
-        ensures once { MakesOnce S.Store self.old self.new }
         ensures ready { OnOk result (IsPrepared S.Store self.old self.new) }
-        ensures inside { IsInside self.old → IsErrOf result StoreError.Fault }
-        ensures leaves { LeavesStore S.Store self.old self.new }
-        ensures layout { self.new.layout ≡ self.old.layout }
         ensures cursor { self.new.cursor ≡ self.old.cursor }
-        ensures made { OnOk result (self.new.is_made ≡ true) }
-        ensures faults { self.old.faults ≤ self.new.faults }
-        ensures fault { FaultsCounted (λ s. s.faults) self.old self.new result StoreError.Fault }
+        ensures kept { ReadsStore S.Store self.old self.new result }
     {
         self.begin()?;
         Ok(set_tables(alloc, self.layout)?)
     }
 
     fn count_rows(&mut self, table: TableName) -> Result<u64, StoreError>
-        ensures survives { OnlyMakes S.Store self.old self.new }
-        ensures once { MakesOnce S.Store self.old self.new }
         ensures undescribed { HasTable self.old table false → IfOk result (λ count. count ≡ 0) }
         ensures counted { HasTable self.old table true → IfOk result
             (λ count. Saw S.Store self.old self.new
             (λ old seen. IsCounted S.Store table old seen count)) }
-        ensures inside { IsInside self.old → IsErrOf result StoreError.Fault }
-        ensures leaves { LeavesStore S.Store self.old self.new }
-        ensures layout { self.new.layout ≡ self.old.layout }
         ensures cursor { self.new.cursor ≡ self.old.cursor }
-        ensures made { OnOk result (self.new.is_made ≡ true) }
-        ensures faults { self.old.faults ≤ self.new.faults }
-        ensures fault { FaultsCounted (λ s. s.faults) self.old self.new result StoreError.Fault }
+        ensures kept { ReadsStore S.Store self.old self.new result }
     {
         self.begin()?;
         if !has_table(self.layout, table) {
@@ -176,19 +157,12 @@ impl<S: Alter> TileStore for SqliteStore<S> {
         ensures undescribed { HasTable self.old table false → IfOk result
             (λ rows. rows.items ≡ []) }
         ensures passed { HasTable self.old table false → self.new.cursor ≡ self.old.cursor }
-        ensures kept { OnErr result (self.new.cursor ≡ self.old.cursor) }
-        ensures survives { OnlyMakes S.Store self.old self.new }
-        ensures once { MakesOnce S.Store self.old self.new }
+        ensures cursor { OnErr result (self.new.cursor ≡ self.old.cursor) }
         ensures paged { HasTable self.old table true → IfOk result
             (λ rows. Saw S.Store self.old self.new
             (λ old seen. MovesPast S.Store table old seen from limit self.old.cursor self.new.cursor
             rows.items)) }
-        ensures inside { IsInside self.old → IsErrOf result StoreError.Fault }
-        ensures leaves { LeavesStore S.Store self.old self.new }
-        ensures layout { self.new.layout ≡ self.old.layout }
-        ensures made { OnOk result (self.new.is_made ≡ true) }
-        ensures faults { self.old.faults ≤ self.new.faults }
-        ensures fault { FaultsCounted (λ s. s.faults) self.old self.new result StoreError.Fault }
+        ensures kept { ReadsStore S.Store self.old self.new result }
     {
         self.begin()?;
         if !has_table(self.layout, table) {
@@ -207,19 +181,12 @@ impl<S: Alter> TileStore for SqliteStore<S> {
         key: &RowKey,
     ) -> Result<Option<Row>, StoreError>
         ensures widths { IfOk result (λ row. IfSome row (λ row. length row ≡ width table)) }
-        ensures survives { OnlyMakes S.Store self.old self.new }
-        ensures once { MakesOnce S.Store self.old self.new }
         ensures undescribed { HasTable self.old table false → IfOk result (λ row. row ≡ None) }
         ensures found { HasTable self.old table true → IfOk result
             (λ row. Saw S.Store self.old self.new
             (λ old seen. IsFound S.Store table old seen key.now row)) }
-        ensures inside { IsInside self.old → IsErrOf result StoreError.Fault }
-        ensures leaves { LeavesStore S.Store self.old self.new }
-        ensures layout { self.new.layout ≡ self.old.layout }
         ensures cursor { self.new.cursor ≡ self.old.cursor }
-        ensures made { OnOk result (self.new.is_made ≡ true) }
-        ensures faults { self.old.faults ≤ self.new.faults }
-        ensures fault { FaultsCounted (λ s. s.faults) self.old self.new result StoreError.Fault }
+        ensures kept { ReadsStore S.Store self.old self.new result }
     {
         self.begin()?;
         if !has_table(self.layout, table) {
@@ -233,15 +200,9 @@ impl<S: Alter> TileStore for SqliteStore<S> {
     /// doesn't have is a fault.
     fn create(&mut self, alloc: Global, tables: &[TableDesc]) -> Result<(), StoreError>
         ensures named { OnOk result (are_named (set_tables self.old.layout) tables.now ≡ true) }
-        ensures once { MakesOnce S.Store self.old self.new }
         ensures ready { OnOk result (IsPrepared S.Store self.old self.new) }
-        ensures inside { IsInside self.old → IsErrOf result StoreError.Fault }
-        ensures leaves { LeavesStore S.Store self.old self.new }
-        ensures layout { self.new.layout ≡ self.old.layout }
         ensures cursor { self.new.cursor ≡ self.old.cursor }
-        ensures made { OnOk result (self.new.is_made ≡ true) }
-        ensures faults { self.old.faults ≤ self.new.faults }
-        ensures fault { FaultsCounted (λ s. s.faults) self.old self.new result StoreError.Fault }
+        ensures kept { ReadsStore S.Store self.old self.new result }
     {
         self.begin()?;
         let own = set_tables(alloc, self.layout)?;
@@ -278,18 +239,11 @@ impl<S: Alter> TileStore for SqliteStore<S> {
     /// The bytes of all texts and blobs, and 8 for each other cell, over all rows of the layout's tables; at
     /// most the greatest `u64`.
     fn live_size(&mut self) -> Result<u64, StoreError>
-        ensures survives { OnlyMakes S.Store self.old self.new }
-        ensures once { MakesOnce S.Store self.old self.new }
         ensures sized { IfOk result
             (λ size. Saw S.Store self.old self.new
             (λ old seen. IsLiveSize S.Store self.old.layout old seen size)) }
-        ensures inside { IsInside self.old → IsErrOf result StoreError.Fault }
-        ensures leaves { LeavesStore S.Store self.old self.new }
-        ensures layout { self.new.layout ≡ self.old.layout }
         ensures cursor { self.new.cursor ≡ self.old.cursor }
-        ensures made { OnOk result (self.new.is_made ≡ true) }
-        ensures faults { self.old.faults ≤ self.new.faults }
-        ensures fault { FaultsCounted (λ s. s.faults) self.old self.new result StoreError.Fault }
+        ensures kept { ReadsStore S.Store self.old self.new result }
     {
         self.begin()?;
         let answer = reading::size(&mut self.connection, self.layout);

@@ -1,9 +1,10 @@
 // Writing the database. What a call changes is committed at once, or not at all.
 ghost use Rattle.std.specs.Prelude.{◌≡◌, false, true, IfOk, IsErrOf, OnErr, OnOk, option_copied};
 ghost use Rattle.mb_sqlite.specs.Common.{AllZip, bound};
-ghost use Rattle.mb_sqlite.specs.Committing.{CommitsNothing, CommitsOnce, KeepsCommitted};
+ghost use Rattle.mb_sqlite.specs.Committing.{CommitsOnce, KeepsCommitted};
+ghost use Rattle.mb_sqlite.specs.Keeping.{GoesOn};
 ghost use Rattle.mb_sqlite.specs.Making.{Adds, AreChanged, Changed, Commits, IsRun, Removes, begun};
-ghost use Rattle.mb_sqlite.specs.Resting.{IfClean, Rests, StaysInside};
+ghost use Rattle.mb_sqlite.specs.Resting.{IfClean, Rests};
 ghost use Rattle.mb_sqlite.specs.Statements.{removal_text};
 ghost use Rattle.mb_sqlite.specs.Stored.{IsWrittenAs};
 
@@ -24,10 +25,7 @@ pub(crate) fn run<S: Alter>(
     values: &[ValueRef<'_>],
 ) -> Result<(), Failure>
     ensures same_reference { transaction.new.conn.ghost_name ≡ transaction.old.conn.ghost_name }
-    ensures survives { CommitsNothing S.Store transaction.old.conn.now transaction.new.conn.now }
-    ensures kept { KeepsCommitted S.Store transaction.old.conn.now transaction.new.conn.now }
-    ensures inside { OnOk result
-        (StaysInside S.Store transaction.old.conn.now transaction.new.conn.now) }
+    ensures kept { GoesOn S.Store transaction.old.conn.now transaction.new.conn.now result }
     ensures runs { IfClean S.Store transaction.new.conn.now
         (OnOk result (IsRun S.Store text.now (bound values.now) transaction.old.conn.now
         transaction.new.conn.now)) }
@@ -43,10 +41,7 @@ fn remove_rows<S: Alter>(
     key: &[ValueRef<'_>],
 ) -> Result<(), Failure>
     ensures same_reference { transaction.new.conn.ghost_name ≡ transaction.old.conn.ghost_name }
-    ensures survives { CommitsNothing S.Store transaction.old.conn.now transaction.new.conn.now }
-    ensures kept { KeepsCommitted S.Store transaction.old.conn.now transaction.new.conn.now }
-    ensures inside { OnOk result
-        (StaysInside S.Store transaction.old.conn.now transaction.new.conn.now) }
+    ensures kept { GoesOn S.Store transaction.old.conn.now transaction.new.conn.now result }
     ensures removes { IfClean S.Store transaction.new.conn.now
         (OnOk result (IsRun S.Store (removal_text table) (bound key.now) transaction.old.conn.now
         transaction.new.conn.now)) }
@@ -62,10 +57,7 @@ fn remove<S: Alter>(
     key: &RowKey,
 ) -> Result<(), Failure>
     ensures same_reference { transaction.new.conn.ghost_name ≡ transaction.old.conn.ghost_name }
-    ensures survives { CommitsNothing S.Store transaction.old.conn.now transaction.new.conn.now }
-    ensures kept { KeepsCommitted S.Store transaction.old.conn.now transaction.new.conn.now }
-    ensures inside { OnOk result
-        (StaysInside S.Store transaction.old.conn.now transaction.new.conn.now) }
+    ensures kept { GoesOn S.Store transaction.old.conn.now transaction.new.conn.now result }
     ensures removes { IfClean S.Store transaction.new.conn.now
         (OnOk result (Removes S.Store table key.now transaction.old.conn.now
         transaction.new.conn.now)) }
@@ -109,10 +101,7 @@ fn add<S: Alter>(
     cells: &[Cell],
 ) -> Result<(), Failure>
     ensures same_reference { transaction.new.conn.ghost_name ≡ transaction.old.conn.ghost_name }
-    ensures survives { CommitsNothing S.Store transaction.old.conn.now transaction.new.conn.now }
-    ensures kept { KeepsCommitted S.Store transaction.old.conn.now transaction.new.conn.now }
-    ensures inside { OnOk result
-        (StaysInside S.Store transaction.old.conn.now transaction.new.conn.now) }
+    ensures kept { GoesOn S.Store transaction.old.conn.now transaction.new.conn.now result }
     ensures adds { IfClean S.Store transaction.new.conn.now
         (OnOk result (Adds S.Store table cells.now transaction.old.conn.now
         transaction.new.conn.now)) }
@@ -136,10 +125,7 @@ fn change_one<S: Alter>(
     row: Option<&Row>,
 ) -> Result<(), Failure>
     ensures same_reference { transaction.new.conn.ghost_name ≡ transaction.old.conn.ghost_name }
-    ensures survives { CommitsNothing S.Store transaction.old.conn.now transaction.new.conn.now }
-    ensures kept { KeepsCommitted S.Store transaction.old.conn.now transaction.new.conn.now }
-    ensures inside { OnOk result
-        (StaysInside S.Store transaction.old.conn.now transaction.new.conn.now) }
+    ensures kept { GoesOn S.Store transaction.old.conn.now transaction.new.conn.now result }
     ensures changed { IfClean S.Store transaction.new.conn.now
         (OnOk result (Changed S.Store layout
         (record { table = table; key = key.now; row = option_copied row.entry })
@@ -166,10 +152,7 @@ fn change<S: Alter>(
     changes: &Changes,
 ) -> Result<(), Failure>
     ensures same_reference { transaction.new.conn.ghost_name ≡ transaction.old.conn.ghost_name }
-    ensures survives { CommitsNothing S.Store transaction.old.conn.now transaction.new.conn.now }
-    ensures kept { KeepsCommitted S.Store transaction.old.conn.now transaction.new.conn.now }
-    ensures inside { OnOk result
-        (StaysInside S.Store transaction.old.conn.now transaction.new.conn.now) }
+    ensures kept { GoesOn S.Store transaction.old.conn.now transaction.new.conn.now result }
     ensures changed { IfClean S.Store transaction.new.conn.now
         (OnOk result (AreChanged S.Store layout changes.now transaction.old.conn.now
         transaction.new.conn.now)) }

@@ -8,7 +8,7 @@ pub returns-in_err-commit-clause-once : goal.returns-in_err-commit-clause-once
 returns-in_err-commit-clause-once g c =
     let old = c.args.connection.now in
     let began = c.transaction-transaction.ensures.begun in
-    done_once g.S.Store (AreMade g.S.Store c.args.layout (begun old)) old c.make_missing.new.transaction.conn.now c.commit.new.self.0 _ (rw began at c.make_missing.ensures.survives) (λ clean. (rw began at c.in_ok-make_missing.ensures.passed clean).passed) c.commit.ensures.survives (search rules)
+    done_once g.S.Store (AreMade g.S.Store c.args.layout (begun old)) old c.make_missing.new.transaction.conn.now c.commit.new.self.0 _ (rw began at c.make_missing.ensures.kept.survives) (λ clean. (rw began at c.in_ok-make_missing.ensures.passed clean).passed) c.commit.ensures.survives (search rules)
 
 pub returns-in_err-commit-clause-rests : goal.returns-in_err-commit-clause-rests
 returns-in_err-commit-clause-rests g c outside =
@@ -16,15 +16,15 @@ returns-in_err-commit-clause-rests g c outside =
     let end = c.commit.new.self.0 in
     let began = c.transaction-transaction.ensures.begun in
     let same : end ≡ c.connection-then-branch-1.given.0 = search rules in
-    let kept = rw began at c.make_missing.ensures.kept in
-    let stays = rw began at c.in_ok-make_missing.ensures.inside in
+    let kept = rw began at c.make_missing.ensures.kept.stands in
+    let stays = rw began at c.in_ok-make_missing.ensures.kept.inside in
     on_err _ _ (subst (λ h. Rests g.S.Store old h) same (rests_failed g.S.Store old c.make_missing.new.transaction.conn.now end _ _ kept stays c.commit.ensures.survives c.in_err-commit.ensures.err c.commit.ensures.ended))
 
 pub returns-in_ok-commit-clause-once : goal.returns-in_ok-commit-clause-once
 returns-in_ok-commit-clause-once g c =
     let old = c.args.connection.now in
     let began = c.transaction-transaction.ensures.begun in
-    done_once g.S.Store (AreMade g.S.Store c.args.layout (begun old)) old c.make_missing.new.transaction.conn.now c.commit.new.self.0 _ (rw began at c.make_missing.ensures.survives) (λ clean. (rw began at c.in_ok-make_missing.ensures.passed clean).passed) c.commit.ensures.survives (search rules)
+    done_once g.S.Store (AreMade g.S.Store c.args.layout (begun old)) old c.make_missing.new.transaction.conn.now c.commit.new.self.0 _ (rw began at c.make_missing.ensures.kept.survives) (λ clean. (rw began at c.in_ok-make_missing.ensures.passed clean).passed) c.commit.ensures.survives (search rules)
 
 pub returns-in_ok-commit-clause-prepared : goal.returns-in_ok-commit-clause-prepared
 unfolding ArePrepared
@@ -47,7 +47,7 @@ returns-else-branch-clause-prepared g c =
     let began = c.transaction-transaction.ensures.begun in
     let passed = rw began at c.in_ok-make_missing.ensures.passed in
     let same : end ≡ c.connection-else-branch-1.given.0 = search rules in
-    let rests = rests_undone g.S.Store old mid end (rw began at c.make_missing.ensures.kept) c.drop-transaction-else-branch.ensures.survives c.drop-transaction-else-branch.ensures.undone c.drop-transaction-else-branch.ensures.ended in
+    let rests = rests_undone g.S.Store old mid end (rw began at c.make_missing.ensures.kept.stands) c.drop-transaction-else-branch.ensures.survives c.drop-transaction-else-branch.ensures.undone c.drop-transaction-else-branch.ensures.ended in
     let whole : HasCleanDisk (state g.S.Store end) → ArePrepared g.S.Store c.args.layout old end =
     λ clean. inl (mid, (passed (omega (arith, clean, c.drop-transaction-else-branch.ensures.survives.clean))).there c.if-branch.false, c.drop-transaction-else-branch.ensures.undone clean, rests) in
     subst (λ h. HasCleanDisk (state g.S.Store h) → ArePrepared g.S.Store c.args.layout old h) same whole
@@ -55,4 +55,4 @@ returns-else-branch-clause-prepared g c =
 pub returns-in_err-make_missing-clause-rests : goal.returns-in_err-make_missing-clause-rests
 returns-in_err-make_missing-clause-rests g c outside =
     let d = c.drop-transaction in
-    on_err _ _ (rests_back g.S.Store c.args.connection.now _ c.make_missing.new.transaction.conn.now d.new.self.0 _ c.transaction-transaction.ensures.begun c.make_missing.ensures.kept d.ensures.survives d.ensures.undone d.ensures.ended (search rules))
+    on_err _ _ (rests_back g.S.Store c.args.connection.now _ c.make_missing.new.transaction.conn.now d.new.self.0 _ c.transaction-transaction.ensures.begun c.make_missing.ensures.kept.stands d.ensures.survives d.ensures.undone d.ensures.ended (search rules))

@@ -13,4 +13,4 @@ returns-then-branch-clause-passed g c clean =
 pub returns-in_ok-run-in-Some-clause-passed : goal.returns-in_ok-run-in-Some-clause-passed
 returns-in_ok-run-in-Some-clause-passed g c clean =
     arises_by g.S.Store c.args.layout c.args.table c.in-Some.text.now c.in_ok-is_there-in-Some.field-0 c.args.transaction.now.conn.now c.is_there.new.transaction.conn.now c.run.new.transaction.conn.now (sym c.making_of.ensures ∙ ap option_copied c.in-Some.is) c.if-branch.false
-    (c.in_ok-is_there-in-Some.ensures.there (omega (arith, clean, c.run.ensures.survives.clean))) (c.in_ok-run-in-Some.ensures.runs clean)
+    (c.in_ok-is_there-in-Some.ensures.there (omega (arith, clean, c.run.ensures.kept.survives.clean))) (c.in_ok-run-in-Some.ensures.runs clean)

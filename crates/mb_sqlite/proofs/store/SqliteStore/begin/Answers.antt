@@ -3,44 +3,82 @@ use Rattle.mb_sqlite.proofs.CommitLemmas.{nothing_once, nothing_yet}
 use Rattle.mb_sqlite.proofs.ReadyLemmas.{leaves_failed, leaves_inside, leaves_ready, ready_now, ready_yet}
 use Rattle.mb_sqlite.proofs.store.SqliteStore.begin.Goals as goal
 
-pub returns-then-not-is_autocommit-clause-once : goal.returns-then-not-is_autocommit-clause-once
-returns-then-not-is_autocommit-clause-once g c = nothing_once g.S.Store _ _ _ (nothing_yet g.S.Store c.args.self.now.connection)
+pub returns-then-not-is_autocommit-clause-kept : goal.returns-then-not-is_autocommit-clause-kept
+returns-then-not-is_autocommit-clause-kept g c =
+    let s = c.args.self.now in
+    let is_inside : s.connection.in_transaction ≡ true = search rules in
+    let none = nothing_yet g.S.Store s.connection in
+    record {
+      once = nothing_once g.S.Store _ _ _ none;
+      survives = λ _. none;
+      leaves = leaves_inside g.S.Store s.layout s.is_made s.is_made s.connection is_inside refl;
+      inside = search rules;
+      layout = refl;
+      made = search rules;
+      faults = search rules;
+      fault = search rules;
+    }
 
-pub returns-then-not-is_autocommit-clause-leaves : goal.returns-then-not-is_autocommit-clause-leaves
-returns-then-not-is_autocommit-clause-leaves g c =
-    let inside : c.args.self.now.connection.in_transaction ≡ true = search rules in
-    leaves_inside g.S.Store c.args.self.now.layout c.args.self.now.is_made c.args.self.now.is_made c.args.self.now.connection inside refl
-
-pub returns-else-not-self-clause-once : goal.returns-else-not-self-clause-once
-returns-else-not-self-clause-once g c = nothing_once g.S.Store _ _ _ (nothing_yet g.S.Store c.args.self.now.connection)
-
-pub returns-in-Err-clause-leaves : goal.returns-in-Err-clause-leaves
-returns-in-Err-clause-leaves g c =
-    let outside : c.args.self.now.connection.in_transaction ≡ false = search rules in
-    let is : c.args.self.now.is_made ≡ false = search rules in
-    leaves_failed g.S.Store c.args.self.now.layout c.args.self.now.is_made c.args.self.now.is_made c.args.self.now.connection c.make.new.connection outside is refl (c.in-Err.ensures.rests outside)
+pub returns-in-Err-clause-kept : goal.returns-in-Err-clause-kept
+returns-in-Err-clause-kept g c =
+    let s = c.args.self.now in
+    let outside : s.connection.in_transaction ≡ false = search rules in
+    let is : s.is_made ≡ false = search rules in
+    record {
+      once = c.make.ensures.once;
+      survives = search rules;
+      leaves = leaves_failed g.S.Store s.layout s.is_made s.is_made s.connection c.make.new.connection outside is refl (c.in-Err.ensures.rests outside);
+      inside = search rules;
+      layout = refl;
+      made = search rules;
+      faults = search rules;
+      fault = search rules;
+    }
 
 pub returns-in-Ok-clause-ready : goal.returns-in-Ok-clause-ready
 returns-in-Ok-clause-ready g c =
-    let outside : c.args.self.now.connection.in_transaction ≡ false = search rules in
-    let is : c.args.self.now.is_made ≡ false = search rules in
-    ready_now g.S.Store c.args.self.now.layout c.args.self.now.is_made c.args.self.now.connection c.make.new.connection is (c.make.ensures.ended outside) c.in-Ok.ensures.prepared
+    let s = c.args.self.now in
+    let outside : s.connection.in_transaction ≡ false = search rules in
+    let is : s.is_made ≡ false = search rules in
+    ready_now g.S.Store s.layout s.is_made s.connection c.make.new.connection is (c.make.ensures.ended outside) c.in-Ok.ensures.prepared
 
-pub returns-in-Ok-clause-leaves : goal.returns-in-Ok-clause-leaves
-returns-in-Ok-clause-leaves g c =
-    let outside : c.args.self.now.connection.in_transaction ≡ false = search rules in
-    let is : c.args.self.now.is_made ≡ false = search rules in
-    let ready = ready_now g.S.Store c.args.self.now.layout c.args.self.now.is_made c.args.self.now.connection c.make.new.connection is (c.make.ensures.ended outside) c.in-Ok.ensures.prepared in
-    leaves_ready g.S.Store c.args.self.now.layout c.args.self.now.is_made true c.args.self.now.connection c.make.new.connection c.make.new.connection outside refl ready c.make.ensures.once (inl refl)
+pub returns-in-Ok-clause-kept : goal.returns-in-Ok-clause-kept
+returns-in-Ok-clause-kept g c =
+    let s = c.args.self.now in
+    let outside : s.connection.in_transaction ≡ false = search rules in
+    let is : s.is_made ≡ false = search rules in
+    let ready = ready_now g.S.Store s.layout s.is_made s.connection c.make.new.connection is (c.make.ensures.ended outside) c.in-Ok.ensures.prepared in
+    record {
+      once = c.make.ensures.once;
+      survives = search rules;
+      leaves = leaves_ready g.S.Store s.layout s.is_made true s.connection c.make.new.connection c.make.new.connection outside refl ready c.make.ensures.once (inl refl);
+      inside = search rules;
+      layout = refl;
+      made = refl;
+      faults = search rules;
+      fault = search rules;
+    }
 
 pub returns-else-not-self-clause-ready : goal.returns-else-not-self-clause-ready
 returns-else-not-self-clause-ready g c =
-    let is : c.args.self.now.is_made ≡ true = search rules in
-    ready_yet g.S.Store c.args.self.now.layout c.args.self.now.is_made c.args.self.now.connection is
+    let s = c.args.self.now in
+    let is : s.is_made ≡ true = search rules in
+    ready_yet g.S.Store s.layout s.is_made s.connection is
 
-pub returns-else-not-self-clause-leaves : goal.returns-else-not-self-clause-leaves
-returns-else-not-self-clause-leaves g c =
-    let outside : c.args.self.now.connection.in_transaction ≡ false = search rules in
-    let is : c.args.self.now.is_made ≡ true = search rules in
-    leaves_ready g.S.Store c.args.self.now.layout c.args.self.now.is_made c.args.self.now.is_made c.args.self.now.connection c.args.self.now.connection c.args.self.now.connection outside is
-    (ready_yet g.S.Store c.args.self.now.layout c.args.self.now.is_made c.args.self.now.connection is) (nothing_once g.S.Store _ _ _ (nothing_yet g.S.Store c.args.self.now.connection)) (inl refl)
+pub returns-else-not-self-clause-kept : goal.returns-else-not-self-clause-kept
+returns-else-not-self-clause-kept g c =
+    let s = c.args.self.now in
+    let outside : s.connection.in_transaction ≡ false = search rules in
+    let is : s.is_made ≡ true = search rules in
+    let none = nothing_yet g.S.Store s.connection in
+    let once = nothing_once g.S.Store _ _ _ none in
+    record {
+      once = once;
+      survives = λ _. none;
+      leaves = leaves_ready g.S.Store s.layout s.is_made s.is_made s.connection s.connection s.connection outside is (ready_yet g.S.Store s.layout s.is_made s.connection is) once (inl refl);
+      inside = search rules;
+      layout = refl;
+      made = is;
+      faults = search rules;
+      fault = search rules;
+    }
