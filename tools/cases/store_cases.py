@@ -71,6 +71,35 @@ def many_rows():
     s.rows('tiles', 0, 2000)
 
 
+def pages():
+    """Pages that go on where the last one ended, pages from elsewhere, and changes and other calls between them."""
+    chance = random.Random(16)
+    for layout in LAYOUTS:
+        s = StoreLines(ROWS, layout)
+        for _ in range(60):
+            name = chance.choice(list(s.tables))
+            s.push(name, *some_cells(chance, name))
+        at = dict.fromkeys(TABLES, 0)
+        for _ in range(250):
+            name = chance.choice(list(s.tables))
+            limit = chance.randrange(4)
+            what = chance.random()
+            if what < 0.75:
+                s.rows(name, at[name], limit)
+                at[name] = at[name] + limit if at[name] <= len(s.tables[name]) else 0
+            elif what < 0.8:
+                s.rows(name, chance.randrange(9), limit)
+            elif what < 0.85:
+                s.push(name, *some_cells(chance, name))
+            elif what < 0.9:
+                s.commit(*some_changes(chance, chance.randrange(3), lambda: chance.choice(list(s.tables))))
+            elif what < 0.95:
+                s.count(name)
+            else:
+                words, cells = some_key(chance, name)
+                s.find(name, words, *cells)
+
+
 def random_stores():
     chance, more = random.Random(13), random.Random(15)
     for layout in LAYOUTS:
@@ -182,5 +211,5 @@ def faults():
 
 
 def write():
-    for rows in (stores, many_rows, random_stores, all_changes, faults):
+    for rows in (stores, many_rows, pages, random_stores, all_changes, faults):
         rows()
