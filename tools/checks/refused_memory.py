@@ -63,9 +63,9 @@ LINES = {
     'checked': ('set_rows', [('check algorithm', 2, 22)],
                 'get_hash_algorithm get_agg_tiles_hash check_agg_tiles_hashes calc_agg_tiles_hash check_tiles_type_validity check_each_tile_hash validate examine_diff assert_hashes '
                 'validate_diff_info summary update_agg_tiles_hash'),
-    'inserted_and_read': ('mbtiles_rows', [('insert override 1 3 1 2', 1, 12)], 'insert_tiles get_tile get_tile_and_hash contains stream_coords stream_tiles'),
+    'inserted_and_read': ('mbtiles_rows', [('insert override 1 3 1 2', 1, 12)], 'insert_tiles Mbtiles::get_tile Mbtiles::get_tile_and_hash Mbtiles::contains Mbtiles::stream_coords Mbtiles::stream_tiles'),
     'by_name': ('mbtiles_rows', [('name tile 0 0 0', 1, 4)], 'Mbtiles::new Mbtiles::get_tile Mbtiles::get_tile_and_hash Mbtiles::contains'),
-    'streamed': ('mbtiles_rows', [('stream coords', 1, 3)], 'stream_coords stream_tiles'),
+    'streamed': ('mbtiles_rows', [('stream coords', 1, 3)], 'Mbtiles::stream_coords Mbtiles::stream_tiles'),
     'single_values': ('mbtiles_rows', [('meta set tname ta', 1, 6), ('meta delete tname', 0, 2)], 'set_metadata_value get_metadata_value get_metadata_zoom_value delete_metadata_value'),
     'documents': ('mbtiles_rows', [('meta insert t{"', 1, 4)], 'insert_metadata get_metadata'),
     'edited_when_loaded': ('mbtiles_rows', [('loaded editing', 1, 3)], 'Editing::set_tile Editing::set_cache_fields Editing::settle'),

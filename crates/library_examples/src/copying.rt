@@ -1,6 +1,6 @@
 // A part of a set, copied into a new one.
 use crate::sets::world;
-use mb_access::contains;
+use mb_access::Mbtiles;
 use mb_copy::{BoxList, MbtilesCopier, TileBox};
 use mb_store::MemStore;
 use std::alloc::Global;
@@ -28,8 +28,9 @@ fn copied(alloc: Global) -> anyhow::Result<(bool, bool)> {
     let mut source = world(alloc)?;
     let mut copy = MemStore::new(alloc);
     copier(alloc)?.run(alloc, &mut source, &mut copy)?;
-    let has_west = contains(alloc, &mut copy, 1, 0, 1)?;
-    let has_east = contains(alloc, &mut copy, 1, 1, 1)?;
+    let set = Mbtiles::new(alloc, "west.mbtiles")?;
+    let has_west = set.contains(alloc, &mut copy, 1, 0, 1)?;
+    let has_east = set.contains(alloc, &mut copy, 1, 1, 1)?;
     Ok((has_west, has_east))
 }
 

@@ -1,7 +1,7 @@
 // A patch puts a new tile into a set.
 use crate::sets::{tile, world};
 use base_values::BlobVal;
-use mb_access::{contains, get_tile};
+use mb_access::Mbtiles;
 use mb_edit::apply_patch;
 use mb_insert::{CopyDuplicateMode, insert_tiles};
 use mb_store::{MbtType, MemStore};
@@ -24,8 +24,9 @@ fn patched(alloc: Global) -> anyhow::Result<(Option<BlobVal>, bool)> {
     let mut base = world(alloc)?;
     let mut patch = patch(alloc)?;
     apply_patch(alloc, &mut base, &mut patch, true)?;
-    let tile = get_tile(alloc, &mut base, 0, 0, 0)?;
-    let is_kept = contains(alloc, &mut base, 1, 0, 0)?;
+    let set = Mbtiles::new(alloc, "world.mbtiles")?;
+    let tile = set.get_tile(alloc, &mut base, 0, 0, 0)?;
+    let is_kept = set.contains(alloc, &mut base, 1, 0, 0)?;
     Ok((tile, is_kept))
 }
 

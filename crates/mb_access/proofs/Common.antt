@@ -1,5 +1,5 @@
 -- What the crate's proofs name of the crates below and of its specs, passed on from one place. Declares nothing.
-pub use Rattle.base_values.proofs.ByHand.Values.{alone, and_tt, beside, by_result, err_of, err_out, holds, ok_of, ok_out, one_of, told}
+pub use Rattle.base_values.proofs.ByHand.Values.{alone, and_tt, beside, by_result, err_of, err_out, holds, ok_of, ok_out, told}
 pub use Rattle.mb_access.specs.Common.{Answers, blob_cell, Cell, cell_at, contains_key, contents_of, Coord, detected, entries, find, get, Hash, InvalidDataFormat, is_free, IsBegun, layout_of, len}
 pub use Rattle.mb_access.specs.Common.{MbtError, MbtType, Normalized, option_flatten, pairs_of, Place, place_at, place_cmp, place_of, ReadsOnly, RestsIfErr, Rose, sem, State, state_of, StoreFault}
 pub use Rattle.mb_access.specs.Common.{Tables, TileSet, Yields}
@@ -44,17 +44,17 @@ pub use denote.Param.Laws.{Laws, param_laws}
 pub use denote.RattleType.{owns, RattleType, Valss}
 pub use denote.Ref.{mut_Tells, MutBor, MutRef, shr_Tells}
 pub use denote.Signature.{mut_ref_to, named_lft, plain, type_at, types_at}
-pub use denote.Steps.{heard, nothing, only}
+pub use denote.Steps.{heard, nothing}
 pub use denote.Struct.Struct.{within}
 pub use denote.Triple.Call.{calls_at}
-pub use denote.Triple.Clauses.{at_exit, AtExit, Clauses, closing, Ended, Lasts, lasts}
+pub use denote.Triple.Clauses.{at_exit, Clauses, closing, Ended, Lasts, lasts}
 pub use denote.Triple.Entry.{Args}
 pub use denote.Triple.Spec.{Meets, triple_of}
 pub use denote.Triple.Table.{framed}
 pub use denote.Triple.Walked.{Goes-dropped, Goes-spent_ref, stay_dropped, Stays, walk_of}
 pub use mir.Syntax.{a_type, addr_of, aggregate, arm, assign, call, Callee, copy, dcons, deref, Dict, dnil, erased, field, Fn, imm, int, Lifetime, Local, local, mut, named, no_default, place, return}
 pub use mir.Syntax.{rv_opd, seq, switch, Sym, tcons, tnil, ttcons, ttnil, Ty, ty_enum, ty_named, ty_param, ty_ref, ty_struct, value_local, variant, w8}
-pub use mir.Val.{has_ty, of_list, Val, vptr, vstruct, WT}
+pub use mir.Val.{of_list, Val, vptr, vstruct}
 pub use prog.Model.{Model}
 pub use prog.Wp.{Closed, Env, WpFn}
 pub use seplogic.Ra.Ura.{Ura}

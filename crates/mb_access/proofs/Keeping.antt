@@ -15,7 +15,7 @@ pub record Keeps {M : Type 1} {𝓤 : Ura M} (𝓛 : Logic 𝓤) (R V : RattleTy
   pub loads : (r : MutBor R.Denot) (x : StreamState) → loaded (Ok (make r x)) ≡ Ok (set_of x)
   pub refuses : (e : MbtError) → loaded (Err e) ≡ Err e
   pub owns : (r : MutBor R.Denot) (x : StreamState) (v u : Val)
-      → ent 𝓤 (sep 𝓤 (sem 𝓛 ((MutRef (named 0) κ R).own_val r (v ∷ []))) (sem 𝓛 ((S-type.the_row).own_val x (u ∷ [])))) (sem 𝓛 (V.own_val (make r x) (vstruct (of_list (v ∷ u ∷ [])) ∷ [])))
+      → ent 𝓤 (sep 𝓤 (sem 𝓛 ((MutRef (named 1) κ R).own_val r (v ∷ []))) (sem 𝓛 ((S-type.the_row).own_val x (u ∷ [])))) (sem 𝓛 (V.own_val (make r x) (vstruct (of_list (v ∷ u ∷ [])) ∷ [])))
 
 module _ {M : Type 1} {𝓤 : Ura M} {𝓛 : Logic 𝓤} {R V : RattleType} {κ : Lft} (k : Keeps 𝓛 R V κ) (r : MutBor R.Denot) (x : StreamState) where
   -- what holds of its parts holds of what is read of it

@@ -6,7 +6,6 @@ pub mod StreamRows
 pub mod StreamPages
 pub mod StreamLoop
 pub mod StreamRunLemmas
-mod Handing
 mod Keeping
 mod Making
 mod RefusedLemmas

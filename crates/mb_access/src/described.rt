@@ -3,6 +3,7 @@ ghost use Rattle.std.specs.Prelude.{◌≡◌, ◌≢◌, Err, IfErr};
 ghost use Rattle.mb_access.specs.Described.{IsDescribed, missing_answer, read_name};
 ghost use Rattle.mb_access.specs.Common.{Answers, detected, FaultsCounted, ReadsOnly};
 
+use crate::Mbtiles;
 use mb_store::{MbtError, MbtResult, MbtType, TableDesc, TileStore};
 use std::alloc::Global;
 
@@ -22,26 +23,30 @@ fn detected_in(tables: &[TableDesc]) -> MbtResult<MbtType>
     mb_store::detect_type(tables)
 }
 
-/// The layout of a set by the descriptions of its tables.
-pub(crate) fn detect_type<S: TileStore>(alloc: Global, store: &mut S) -> MbtResult<MbtType>
-    ensures answer { IsDescribed detected (S.tells store.old) (S.told store.old) result }
-    ensures kept { ReadsOnly S.told S.tells S.faults S.steady store.old store.new }
-    ensures fault { FaultsCounted S.faults store.old store.new result MbtError.StoreFault }
-{
-    let tables = store.describe(alloc)?;
-    detected_in(&tables)
-}
+impl Mbtiles {
+    /// The layout of the set by the descriptions of its tables, or the refusal of `detect_type` of these.
+    pub fn detect_type<S: TileStore>(&self, alloc: Global, store: &mut S) -> MbtResult<MbtType>
+        ensures answer { IsDescribed detected (S.tells store.old) (S.told store.old) result }
+        ensures kept { ReadsOnly S.told S.tells S.faults S.steady store.old store.new }
+        ensures fault { FaultsCounted S.faults store.old store.new result MbtError.StoreFault }
+    {
+        let tables = store.describe(alloc)?;
+        detected_in(&tables)
+    }
 
-/// The name of the table without an index on places, by the descriptions of a set's tables.
-pub(crate) fn missing_tile_index<S: TileStore>(
-    alloc: Global,
-    store: &mut S,
-) -> MbtResult<Option<&'static str>>
-    ensures answer { IsDescribed missing_answer
-        (S.tells store.old) (S.told store.old) (read_name result) }
-    ensures kept { ReadsOnly S.told S.tells S.faults S.steady store.old store.new }
-    ensures fault { FaultsCounted S.faults store.old store.new result MbtError.StoreFault }
-{
-    let tables = store.describe(alloc)?;
-    missing_in(&tables)
+    /// The name of the table of the set's places, where no index of it has the columns of a place among its own, by the
+    /// descriptions of its tables.
+    pub fn missing_tile_index<S: TileStore>(
+        &self,
+        alloc: Global,
+        store: &mut S,
+    ) -> MbtResult<Option<&'static str>>
+        ensures answer { IsDescribed missing_answer
+            (S.tells store.old) (S.told store.old) (read_name result) }
+        ensures kept { ReadsOnly S.told S.tells S.faults S.steady store.old store.new }
+        ensures fault { FaultsCounted S.faults store.old store.new result MbtError.StoreFault }
+    {
+        let tables = store.describe(alloc)?;
+        missing_in(&tables)
+    }
 }

@@ -4,6 +4,7 @@ ghost use Rattle.mb_access.specs.Hashed.{IsHashed, hash_by, hashed_answer, id_at
 ghost use Rattle.mb_access.specs.Reads.{coord_in};
 ghost use Rattle.mb_access.specs.Common.{Answers, cell_at, FaultsCounted, is_free, place_at, ReadsOnly, tile_key};
 
+use crate::Mbtiles;
 use crate::reads::{bytes_in, coord_in};
 use base_values::{BlobVal, OutOfMemory, TextVal};
 use mb_lists::cell_at;
@@ -135,23 +136,26 @@ fn hashed(
     }
 }
 
-/// The bytes of the tile at a zoom, a column from the left and a row from the top, as `get_tile` answers them, with the
-/// digest that the store has for them: the hash of the row in a flat set with hashes, the id of the contents in a
-/// normalised set by hash. There is no digest where that cell is null, and in the other layouts.
-///
-/// It answers the refusals of `load`. The store holds what it held, whatever the answer.
-pub fn get_tile_and_hash<S: TileStore>(
-    alloc: Global,
-    store: &mut S,
-    z: u8,
-    x: u32,
-    y: u32,
-) -> MbtResult<Option<(BlobVal, Option<TextVal>)>>
-    ensures answer { IsHashed z x y (S.tells store.old) (S.told store.old) result }
-    ensures kept { ReadsOnly S.told S.tells S.faults S.steady store.old store.new }
-    ensures fault { FaultsCounted S.faults store.old store.new result MbtError.StoreFault }
-{
-    let set = load(alloc, store)?;
-    let row = row_by(alloc, store, set.mbt_type(), coord_in(z, x, y))?;
-    hashed(alloc, &set, z, x, y, row)
+impl Mbtiles {
+    /// The bytes of the tile at a zoom, a column from the left and a row from the top, as `get_tile` answers them, with
+    /// the digest that the store has for them: the hash of the row in a flat set with hashes, the id of the contents in
+    /// a normalised set by hash. There is no digest where that cell is null, and in the other layouts.
+    ///
+    /// It answers the refusals of `load`. The store holds what it held, whatever the answer.
+    pub fn get_tile_and_hash<S: TileStore>(
+        &self,
+        alloc: Global,
+        store: &mut S,
+        z: u8,
+        x: u32,
+        y: u32,
+    ) -> MbtResult<Option<(BlobVal, Option<TextVal>)>>
+        ensures answer { IsHashed z x y (S.tells store.old) (S.told store.old) result }
+        ensures kept { ReadsOnly S.told S.tells S.faults S.steady store.old store.new }
+        ensures fault { FaultsCounted S.faults store.old store.new result MbtError.StoreFault }
+    {
+        let set = load(alloc, store)?;
+        let row = row_by(alloc, store, set.mbt_type(), coord_in(z, x, y))?;
+        hashed(alloc, &set, z, x, y, row)
+    }
 }

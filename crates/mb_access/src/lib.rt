@@ -6,16 +6,14 @@ mod finding;
 mod hashed;
 pub mod laws;
 mod mbtiles;
+mod mbtiles_inserts;
 mod mbtiles_metadata;
-mod mbtiles_tiles;
 mod reads;
 mod stream_state;
 mod streams;
 
-pub use hashed::get_tile_and_hash;
 pub use mb_insert::{CopyDuplicateMode, NewTile, insert_tiles};
 pub use mb_metadata::{Metadata, UpdateZoomType, compute_min_max_zoom};
 pub use mbtiles::Mbtiles;
-pub use reads::{contains, get_tile};
 pub use stream_state::StreamState;
-pub use streams::{Coords, Tiles, stream_coords, stream_tiles};
+pub use streams::{Coords, Tiles};

@@ -3,6 +3,7 @@ ghost use Rattle.std.specs.Prelude.{◌≡◌, ◌≢◌, Err, is_some, option_c
 ghost use Rattle.mb_access.specs.Reads.{bytes_in, contains_answer, coord_in, tile_answer, tile_in};
 ghost use Rattle.mb_access.specs.Common.{Answers, blob_cell, FaultsCounted, IsBegun, ReadsOnly};
 
+use crate::Mbtiles;
 use base_values::BlobVal;
 use mb_load::load;
 use mb_loaded::Loaded;
@@ -52,40 +53,44 @@ pub(crate) fn bytes_in(
     }
 }
 
-/// The bytes of the tile at a zoom, a column from the left and a row from the top. None where the set has no tile there
-/// or null, and where the three are no coordinate.
-///
-/// It answers the refusals of `load`. The store holds what it held, whatever the answer.
-pub fn get_tile<S: TileStore>(
-    alloc: Global,
-    store: &mut S,
-    z: u8,
-    x: u32,
-    y: u32,
-) -> MbtResult<Option<BlobVal>>
-    ensures answer { IsBegun (tile_answer z x y) (S.tells store.old) (S.told store.old) result }
-    ensures kept { ReadsOnly S.told S.tells S.faults S.steady store.old store.new }
-    ensures fault { FaultsCounted S.faults store.old store.new result MbtError.StoreFault }
-{
-    let set = load(alloc, store)?;
-    bytes_in(alloc, &set, z, x, y)
-}
+impl Mbtiles {
+    /// The bytes of the tile at a zoom, a column from the left and a row from the top. None where the set has no tile there
+    /// or null, and where the three are no coordinate.
+    ///
+    /// It answers the refusals of `load`. The store holds what it held, whatever the answer.
+    pub fn get_tile<S: TileStore>(
+        &self,
+        alloc: Global,
+        store: &mut S,
+        z: u8,
+        x: u32,
+        y: u32,
+    ) -> MbtResult<Option<BlobVal>>
+        ensures answer { IsBegun (tile_answer z x y) (S.tells store.old) (S.told store.old) result }
+        ensures kept { ReadsOnly S.told S.tells S.faults S.steady store.old store.new }
+        ensures fault { FaultsCounted S.faults store.old store.new result MbtError.StoreFault }
+    {
+        let set = load(alloc, store)?;
+        bytes_in(alloc, &set, z, x, y)
+    }
 
-/// Whether the set has a tile at a zoom, a column from the left and a row from the top, null ones included. False where
-/// the three are no coordinate.
-///
-/// It answers the refusals of `load`. The store holds what it held, whatever the answer.
-pub fn contains<S: TileStore>(
-    alloc: Global,
-    store: &mut S,
-    z: u8,
-    x: u32,
-    y: u32,
-) -> MbtResult<bool>
-    ensures answer { IsBegun (contains_answer z x y) (S.tells store.old) (S.told store.old) result }
-    ensures kept { ReadsOnly S.told S.tells S.faults S.steady store.old store.new }
-    ensures fault { FaultsCounted S.faults store.old store.new result MbtError.StoreFault }
-{
-    let set = load(alloc, store)?;
-    Ok(has_tile(&set, z, x, y))
+    /// Whether the set has a tile at a zoom, a column from the left and a row from the top, null ones included. False where
+    /// the three are no coordinate.
+    ///
+    /// It answers the refusals of `load`. The store holds what it held, whatever the answer.
+    pub fn contains<S: TileStore>(
+        &self,
+        alloc: Global,
+        store: &mut S,
+        z: u8,
+        x: u32,
+        y: u32,
+    ) -> MbtResult<bool>
+        ensures answer { IsBegun (contains_answer z x y) (S.tells store.old) (S.told store.old) result }
+        ensures kept { ReadsOnly S.told S.tells S.faults S.steady store.old store.new }
+        ensures fault { FaultsCounted S.faults store.old store.new result MbtError.StoreFault }
+    {
+        let set = load(alloc, store)?;
+        Ok(has_tile(&set, z, x, y))
+    }
 }

@@ -5,7 +5,7 @@ ghost use Rattle.mb_access.specs.Refused.{IsUnfailing, LeftByStart};
 ghost use Rattle.mb_access.specs.StreamSteps.{AreAllLeft, left_at_most, set_of};
 ghost use Rattle.mb_access.specs.Streams.{coords_loaded, tiles_loaded};
 
-use crate::StreamState;
+use crate::{Mbtiles, StreamState};
 use base_values::BlobVal;
 use mb_store::{MbtResult, TileStore};
 use std::alloc::Global;
@@ -97,50 +97,60 @@ impl<'s, S: TileStore> Iterator for Tiles<'s, S> {
     }
 }
 
-/// The coordinates of a set's tiles in the order of their rows: `StreamState::start`, and then `Coords::over`.
-///
-/// An error is one that `start` answers: a refusal of `load`, running out of memory, or a fault, which doesn't come
-/// over a store whose calls don't fail. After an error the store holds and tells what it did, and its count of faults
-/// didn't fall, and rose where `StoreFault` came (`rests`). Whoever needs this for a proof calls `start`.
-pub fn stream_coords<'s, S: TileStore>(alloc: Global, store: &'s mut S) -> MbtResult<Coords<'s, S>>
-    ensures* rests { sem 𝓛 (RestsIfErr S.row store.entry (λ c. c.store.ghost_name) result
-        (LeftByStart S.told S.tells S.faults S.steady store.old result)) }
-    ensures answer { IsBegun Ok (S.tells store.old) (S.told store.old) (coords_loaded result) }
-    ensures unfailing { IsUnfailing (S.steady store.old) (S.faults store.old) result }
-    ensures same_reference { IfOk result (λ c. c.store.ghost_name ≡ store.entry.ghost_name) }
-    ensures items { S.tells store.old ≡ true
-        → IfOk result (λ c. AreAllLeft (S.told store.old) (S.told c.store.now) c.state) }
-    ensures most { IfOk result (λ c. left_at_most c.state ≡ len (set_of c.state).tiles) }
-    ensures kept { IfOk result
-        (λ c. ReadsOnly S.told S.tells S.faults S.steady store.old c.store.now) }
-    ensures still { IfOk result (λ c. S.faults c.store.now ≡ S.faults store.old) }
-{
-    match StreamState::start(alloc, store) {
-        Ok(state) => Ok(Coords { store, state }),
-        Err(error) => Err(error),
+impl Mbtiles {
+    /// The coordinates of a set's tiles in the order of their rows: `StreamState::start`, and then `Coords::over`.
+    ///
+    /// An error is one that `start` answers: a refusal of `load`, running out of memory, or a fault, which doesn't come
+    /// over a store whose calls don't fail. After an error the store holds and tells what it did, and its count of faults
+    /// didn't fall, and rose where `StoreFault` came (`rests`). Whoever needs this for a proof calls `start`.
+    pub fn stream_coords<'s, S: TileStore>(
+        &self,
+        alloc: Global,
+        store: &'s mut S,
+    ) -> MbtResult<Coords<'s, S>>
+        ensures* rests { sem 𝓛 (RestsIfErr S.row store.entry (λ c. c.store.ghost_name) result
+            (LeftByStart S.told S.tells S.faults S.steady store.old result)) }
+        ensures answer { IsBegun Ok (S.tells store.old) (S.told store.old) (coords_loaded result) }
+        ensures unfailing { IsUnfailing (S.steady store.old) (S.faults store.old) result }
+        ensures same_reference { IfOk result (λ c. c.store.ghost_name ≡ store.entry.ghost_name) }
+        ensures items { S.tells store.old ≡ true
+            → IfOk result (λ c. AreAllLeft (S.told store.old) (S.told c.store.now) c.state) }
+        ensures most { IfOk result (λ c. left_at_most c.state ≡ len (set_of c.state).tiles) }
+        ensures kept { IfOk result
+            (λ c. ReadsOnly S.told S.tells S.faults S.steady store.old c.store.now) }
+        ensures still { IfOk result (λ c. S.faults c.store.now ≡ S.faults store.old) }
+    {
+        match StreamState::start(alloc, store) {
+            Ok(state) => Ok(Coords { store, state }),
+            Err(error) => Err(error),
+        }
     }
-}
 
-/// The tiles of a set in the order of their rows: `StreamState::start`, and then `Tiles::over`.
-///
-/// An error is one that `start` answers: a refusal of `load`, running out of memory, or a fault, which doesn't come
-/// over a store whose calls don't fail. After an error the store holds and tells what it did, and its count of faults
-/// didn't fall, and rose where `StoreFault` came (`rests`). Whoever needs this for a proof calls `start`.
-pub fn stream_tiles<'s, S: TileStore>(alloc: Global, store: &'s mut S) -> MbtResult<Tiles<'s, S>>
-    ensures* rests { sem 𝓛 (RestsIfErr S.row store.entry (λ c. c.store.ghost_name) result
-        (LeftByStart S.told S.tells S.faults S.steady store.old result)) }
-    ensures answer { IsBegun Ok (S.tells store.old) (S.told store.old) (tiles_loaded result) }
-    ensures unfailing { IsUnfailing (S.steady store.old) (S.faults store.old) result }
-    ensures same_reference { IfOk result (λ c. c.store.ghost_name ≡ store.entry.ghost_name) }
-    ensures items { S.tells store.old ≡ true
-        → IfOk result (λ c. AreAllLeft (S.told store.old) (S.told c.store.now) c.state) }
-    ensures most { IfOk result (λ c. left_at_most c.state ≡ len (set_of c.state).tiles) }
-    ensures kept { IfOk result
-        (λ c. ReadsOnly S.told S.tells S.faults S.steady store.old c.store.now) }
-    ensures still { IfOk result (λ c. S.faults c.store.now ≡ S.faults store.old) }
-{
-    match StreamState::start(alloc, store) {
-        Ok(state) => Ok(Tiles { store, state }),
-        Err(error) => Err(error),
+    /// The tiles of a set in the order of their rows: `StreamState::start`, and then `Tiles::over`.
+    ///
+    /// An error is one that `start` answers: a refusal of `load`, running out of memory, or a fault, which doesn't come
+    /// over a store whose calls don't fail. After an error the store holds and tells what it did, and its count of faults
+    /// didn't fall, and rose where `StoreFault` came (`rests`). Whoever needs this for a proof calls `start`.
+    pub fn stream_tiles<'s, S: TileStore>(
+        &self,
+        alloc: Global,
+        store: &'s mut S,
+    ) -> MbtResult<Tiles<'s, S>>
+        ensures* rests { sem 𝓛 (RestsIfErr S.row store.entry (λ c. c.store.ghost_name) result
+            (LeftByStart S.told S.tells S.faults S.steady store.old result)) }
+        ensures answer { IsBegun Ok (S.tells store.old) (S.told store.old) (tiles_loaded result) }
+        ensures unfailing { IsUnfailing (S.steady store.old) (S.faults store.old) result }
+        ensures same_reference { IfOk result (λ c. c.store.ghost_name ≡ store.entry.ghost_name) }
+        ensures items { S.tells store.old ≡ true
+            → IfOk result (λ c. AreAllLeft (S.told store.old) (S.told c.store.now) c.state) }
+        ensures most { IfOk result (λ c. left_at_most c.state ≡ len (set_of c.state).tiles) }
+        ensures kept { IfOk result
+            (λ c. ReadsOnly S.told S.tells S.faults S.steady store.old c.store.now) }
+        ensures still { IfOk result (λ c. S.faults c.store.now ≡ S.faults store.old) }
+    {
+        match StreamState::start(alloc, store) {
+            Ok(state) => Ok(Tiles { store, state }),
+            Err(error) => Err(error),
+        }
     }
 }

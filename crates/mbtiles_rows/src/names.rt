@@ -1,27 +1,9 @@
 // A set by the path of its file: its name, and its methods on the store.
-use crate::reads::place;
+use crate::reads::tile;
 use mb_access::Mbtiles;
 use mb_store::TileStore;
 use rows_shared::{Words, said, say, say_text, text};
 use std::alloc::Global;
-
-// A read of the tile at the place of the next words.
-fn tile<S: TileStore>(
-    alloc: Global,
-    out: &mut String,
-    set: &Mbtiles,
-    store: &mut S,
-    call: &str,
-    words: &mut Words,
-) -> Option<()> {
-    let (zoom, column, row) = place(words)?;
-    match call {
-        "tile" => said(out, set.get_tile(alloc, store, zoom, column, row)),
-        "hash" => said(out, set.get_tile_and_hash(alloc, store, zoom, column, row)),
-        "has" => said(out, set.contains(alloc, store, zoom, column, row)),
-        _ => None,
-    }
-}
 
 // The path, the name in it, and the path once more as it is displayed.
 fn say_named(out: &mut String, set: &Mbtiles) -> Option<()> {

@@ -2,7 +2,7 @@
 // of what would be printed.
 use crate::printed::say_digest;
 use base_values::BlobVal;
-use mb_access::{Coords, Tiles, stream_coords, stream_tiles};
+use mb_access::{Coords, Mbtiles, Tiles};
 use mb_store::{MbtResult, TileStore};
 use rows_shared::{Words, said, say, say_bytes};
 use std::alloc::Global;
@@ -86,9 +86,10 @@ fn coords<S: TileStore>(
     alloc: Global,
     out: &mut String,
     text: &mut String,
+    set: &Mbtiles,
     store: &mut S,
 ) -> Option<Option<u64>> {
-    match stream_coords(alloc, store) {
+    match set.stream_coords(alloc, store) {
         Ok(coords) => Some(Some(coords_in(out, text, coords)?)),
         Err(error) => {
             said(out, error)?;
@@ -101,9 +102,10 @@ fn tiles<S: TileStore>(
     alloc: Global,
     out: &mut String,
     text: &mut String,
+    set: &Mbtiles,
     store: &mut S,
 ) -> Option<Option<u64>> {
-    match stream_tiles(alloc, store) {
+    match set.stream_tiles(alloc, store) {
         Ok(tiles) => Some(Some(tiles_in(alloc, out, text, tiles)?)),
         Err(error) => {
             said(out, error)?;
@@ -130,11 +132,12 @@ pub fn answer<S: TileStore>(
     store: &mut S,
     words: &mut Words,
 ) -> Option<()> {
+    let set = Mbtiles::new(alloc, "").ok()?;
     let mut text = String::new(alloc);
     let word = words.next()?;
     let count = match word {
-        "coords" | "coords_digest" => coords(alloc, out, &mut text, store)?,
-        "tiles" | "tiles_digest" => tiles(alloc, out, &mut text, store)?,
+        "coords" | "coords_digest" => coords(alloc, out, &mut text, &set, store)?,
+        "tiles" | "tiles_digest" => tiles(alloc, out, &mut text, &set, store)?,
         _ => return None,
     };
     say_stream(

@@ -1,30 +1,30 @@
--- The call's answer is handed on. Assumes `Logic`.
-use Rattle.mb_access.proofs.Common.{id⊢, layout, named, named_lft, param, param_laws, refl, []}
-use Rattle.std.proofs.result.Result.TheLaws as result
-use Rattle.std.specs.contracts.result.Result as RS
-use Rattle.mb_tables.proofs.error.MbtError.TheLaws as error
-use Rattle.mb_tables.specs.contracts.error.MbtError as E-type
+-- A stream of tiles is made of a store. Assumes `Logic`.
+use Rattle.mb_access.proofs.Common.{done, erased, feq_i, fjoin, fpack, List, move, MutRef, named, named_lft, nothing, of_list, param, qed, refl, tiles_loaded, Val, Valss, vstruct, within, !, [], ‵}
+use Rattle.mb_access.proofs.Common.{◌$◌, ◌∵◌, ◌∷◌}
+use denote.Struct.Declared as Declared
 use Rattle.mb_access.specs.contracts.stream_state.StreamState as S-type
 use Rattle.mb_access.specs.contracts.streams.Tiles as W-type
-use Rattle.mb_access.specs.contracts.streams.stream_tiles as s
-use Rattle.mb_access.specs.contracts.streams.stream_tiles.Key.{name}
-use Rattle.mb_access.specs.contracts.mbtiles.Mbtiles.stream_tiles as f
 use Rattle.mb_access.specs.contracts.mbtiles.Mbtiles.stream_tiles.Key.{name as #self}
-use Rattle.mb_access.proofs.Handing.{hands_on}
-use Rattle.mb_access.proofs.Making.{inst}
-use Rattle.mb_access.proofs.stream_state.StreamState.TheLaws as state
-use Rattle.mb_access.proofs.streams.Tiles.TheLaws as stream
-use Rattle.mb_access.proofs.streams.stream_tiles.Met as called
+use Rattle.mb_access.proofs.Making.{inst, makes}
 use Rattle.mb_access.proofs.mbtiles.Mbtiles.stream_tiles.Code as code
 use Rattle.mb_access.proofs.mbtiles.Mbtiles.stream_tiles.Statement.{statement}
 
 pub stream_tiles_spec : {M : Type 1} → statement M
 stream_tiles_spec 𝓤 𝓛 𝓜 𝓡 wired Y L gb db mb =
-    let R = param 0 Y in let S = S-type.the_row in let E = E-type.the_row in
-    hands_on 𝓤 𝓛 𝓜 𝓡 Y (λ κs. RS.the_row (W-type.the_row (named_lft 2 0 tt κs) R S) E) (λ κs. RS.the_row (W-type.the_row (named_lft 3 1 tt κs) R S) E)
-    (λ κs a r e. (s.clauses Y gb db 𝓛 𝓜.mem 𝓡.returns κs a).ensures tt r e) (λ κs a r e. (f.clauses Y gb db 𝓛 𝓜.mem 𝓡.returns κs a).ensures tt r e)
-    (layout (RS.the_row (W-type.the_row (record { mir = named 1; lft = [] }) R S) E)) (name (inst Y db))
-    (λ κs. result.the_row_laws (W-type.the_row (named_lft 3 1 tt κs) R S) E (stream.the_row_laws (named_lft 3 1 tt κs) R S (param_laws 0 Y L) state.the_row_laws) error.the_row_laws)
-    (λ κs. refl) (λ κs a r. (r, (λ v. id⊢ 𝓤 _), (λ e e'. id⊢ 𝓤 _)))
-    (called.met 𝓤 𝓛 𝓜 𝓡 (code.calls-mb_access::streams::stream_tiles 𝓡.env wired) Y L gb db mb)
-    (#self (inst Y db)) (code.unfolded 𝓤 𝓛.H 𝓜 𝓡 wired (Y, tt) db)
+    let R = param 0 Y in let S = S-type.the_row in
+    makes 𝓤 𝓛 𝓜 𝓡 Y L gb db mb (W-type.struct (record { mir = erased; lft = [] }) R S).name (λ κs. W-type.the_row (named_lft 3 1 tt κs) R S)
+    (λ κs. record {
+      make = λ r x. record { store = r; state = x };
+      store = λ d. d.store;
+      state = λ d. d.state;
+      loaded = tiles_loaded;
+      same_store = λ r x. refl;
+      same_state = λ r x. refl;
+      loads = λ r x. refl;
+      refuses = λ e. refl;
+      owns = λ r x v u. let wv : Val = vstruct (of_list (v ∷ u ∷ [])) in let B = MutRef (named 1) κs.1.0 R in
+          qed 𝓛 (‵ (B.own_val r (v ∷ [])) ∷ ‵ (S.own_val x (u ∷ [])) ∷ []) ∵ nothing ! $ move ! (2 ∷ 0 ∷ []) $ fjoin ! $ move ! (1 ∷ 0 ∷ []) $ fjoin ! $
+          feq_i ! (List Val) (wv ∷ []) (wv ∷ []) refl $ fjoin ! $
+          fpack ! (Valss (B ∷ S ∷ [])) (within (Declared.shape (W-type.the_type (named_lft 3 1 tt κs) R S)) (r, (x, tt)) (wv ∷ [])) (v ∷ [], (u ∷ [], tt)) $ done !;
+    })
+    (#self (inst Y db)) (code.unfolded 𝓤 𝓛.H 𝓜 𝓡 wired (Y, tt) db) (code.calls-mb_access::stream_state::StreamState::start 𝓡.env wired)

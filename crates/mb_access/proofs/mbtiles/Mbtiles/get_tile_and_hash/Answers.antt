@@ -1,7 +1,7 @@
 use Rattle.mb_access.proofs.Common.{coord_in, err_from_is_err_and, StoreFault, ◌∙◌}
 use Rattle.mb_store.proofs.FaultLemmas.{unasked}
 use Rattle.mb_access.proofs.HashedLemmas.{hashed_err, hashed_free, hashed_ok, row_by_same}
-use Rattle.mb_access.proofs.hashed.get_tile_and_hash.Goals as goal
+use Rattle.mb_access.proofs.mbtiles.Mbtiles.get_tile_and_hash.Goals as goal
 
 pub returns-in_err-set-clause-answer : goal.returns-in_err-set-clause-answer
 returns-in_err-set-clause-answer g c =

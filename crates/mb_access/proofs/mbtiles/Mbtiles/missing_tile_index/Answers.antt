@@ -2,7 +2,7 @@ use Rattle.mb_access.proofs.Common.{err_from_is_err_and, missing_answer, StoreFa
 use Rattle.std.proofs.Common.{rules}
 use Rattle.mb_store.proofs.FaultLemmas.{unasked}
 use Rattle.mb_access.proofs.DescribedLemmas.{described_err}
-use Rattle.mb_access.proofs.described.missing_tile_index.Goals as goal
+use Rattle.mb_access.proofs.mbtiles.Mbtiles.missing_tile_index.Goals as goal
 
 pub returns-in_err-tables-clause-answer : goal.returns-in_err-tables-clause-answer
 returns-in_err-tables-clause-answer g c =

@@ -1,7 +1,7 @@
 use Rattle.mb_access.proofs.Common.{detected, err_from_is_err_and, StoreFault, ◌∙◌}
 use Rattle.mb_store.proofs.FaultLemmas.{unasked}
 use Rattle.mb_access.proofs.DescribedLemmas.{described_err}
-use Rattle.mb_access.proofs.described.detect_type.Goals as goal
+use Rattle.mb_access.proofs.mbtiles.Mbtiles.detect_type.Goals as goal
 
 pub returns-in_err-tables-clause-answer : goal.returns-in_err-tables-clause-answer
 returns-in_err-tables-clause-answer g c =

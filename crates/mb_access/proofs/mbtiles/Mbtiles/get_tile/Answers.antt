@@ -1,6 +1,6 @@
 use Rattle.mb_access.proofs.Common.{begun_err, begun_ok, err_from_is_err_and, StoreFault, tile_answer}
 use Rattle.mb_store.proofs.FaultLemmas.{unasked}
-use Rattle.mb_access.proofs.reads.get_tile.Goals as goal
+use Rattle.mb_access.proofs.mbtiles.Mbtiles.get_tile.Goals as goal
 
 pub returns-in_err-set-clause-answer : goal.returns-in_err-set-clause-answer
 returns-in_err-set-clause-answer g c =

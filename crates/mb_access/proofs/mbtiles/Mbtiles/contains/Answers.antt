@@ -1,5 +1,5 @@
 use Rattle.mb_access.proofs.Common.{ap, begun_err, begun_ok, contains_answer, err_from_is_err_and, Ok, sym}
-use Rattle.mb_access.proofs.reads.contains.Goals as goal
+use Rattle.mb_access.proofs.mbtiles.Mbtiles.contains.Goals as goal
 
 pub returns-in_err-set-clause-answer : goal.returns-in_err-set-clause-answer
 returns-in_err-set-clause-answer g c =
