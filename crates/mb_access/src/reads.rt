@@ -54,8 +54,8 @@ pub(crate) fn bytes_in(
 }
 
 impl Mbtiles {
-    /// The bytes of the tile at a zoom, a column from the left and a row from the top. None where the set has no tile there
-    /// or null, and where the three are no coordinate.
+    /// The bytes of the tile at a zoom, a column from the left and a row from the top. None where the set has no tile
+    /// there or null, and where the three are no coordinate.
     ///
     /// It answers the refusals of `load`. The store holds what it held, whatever the answer.
     pub fn get_tile<S: TileStore>(
@@ -74,8 +74,8 @@ impl Mbtiles {
         bytes_in(alloc, &set, z, x, y)
     }
 
-    /// Whether the set has a tile at a zoom, a column from the left and a row from the top, null ones included. False where
-    /// the three are no coordinate.
+    /// Whether the set has a tile at a zoom, a column from the left and a row from the top, null ones included. False
+    /// where the three are no coordinate.
     ///
     /// It answers the refusals of `load`. The store holds what it held, whatever the answer.
     pub fn contains<S: TileStore>(

@@ -101,8 +101,8 @@ impl Mbtiles {
     /// The coordinates of a set's tiles in the order of their rows: `StreamState::start`, and then `Coords::over`.
     ///
     /// An error is one that `start` answers: a refusal of `load`, running out of memory, or a fault, which doesn't come
-    /// over a store whose calls don't fail. After an error the store holds and tells what it did, and its count of faults
-    /// didn't fall, and rose where `StoreFault` came (`rests`). Whoever needs this for a proof calls `start`.
+    /// over a store whose calls don't fail. After an error the store holds and tells what it did, and its count of
+    /// faults didn't fall, and rose where `StoreFault` came (`rests`). Whoever needs this for a proof calls `start`.
     pub fn stream_coords<'s, S: TileStore>(
         &self,
         alloc: Global,
@@ -129,8 +129,8 @@ impl Mbtiles {
     /// The tiles of a set in the order of their rows: `StreamState::start`, and then `Tiles::over`.
     ///
     /// An error is one that `start` answers: a refusal of `load`, running out of memory, or a fault, which doesn't come
-    /// over a store whose calls don't fail. After an error the store holds and tells what it did, and its count of faults
-    /// didn't fall, and rose where `StoreFault` came (`rests`). Whoever needs this for a proof calls `start`.
+    /// over a store whose calls don't fail. After an error the store holds and tells what it did, and its count of
+    /// faults didn't fall, and rose where `StoreFault` came (`rests`). Whoever needs this for a proof calls `start`.
     pub fn stream_tiles<'s, S: TileStore>(
         &self,
         alloc: Global,
