@@ -1,9 +1,13 @@
 -- The tiles that parts come to, added in order.
-use Rattle.tile_extract.proofs.Common.{add_to, AddCauses, AddFits, and_from, and_parts, append-nil, append_assoc, arith, Bool, ByRoom, data_end, EndsBy, Err, ExtractError, false, has_room}
-use Rattle.tile_extract.proofs.Common.{IndexEntryOverflow, is_lt, is_sorted, length, List, lt_by, MediumFault, nat_cmp, nat_lt, nat_tests, never, of_write_error, Ok, Option, Options, PmtError, Puts}
-use Rattle.tile_extract.proofs.Common.{PutsAll, range_with_len, refl, Result, Rises, Rose, subst, suc, sym, to_lt, Took, true, true≢false, WriterState, zero, ℕ, [], ◌&&◌, ◌+◌, ◌<◌, ◌^◌, ◌∙◌, ◌∷◌, ◌≡◌}
+use Rattle.tile_extract.proofs.Common.{add_run_to, add_to, AddCauses, AddFits, and_from, and_parts, ap, append-nil, append_assoc, arith, Bool, ByRoom, data_end, EndsBy, Err, ExtractError, false, has_room}
+use Rattle.tile_extract.proofs.Common.{has_failed, IndexEntryOverflow, is_lt, is_some, is_sorted, length, List, lt_by, MediumFault, nat_cmp, nat_lt, nat_tests, never, of_write_error, Ok, Option, Options, PmtError, Puts}
+use Rattle.tile_extract.proofs.Common.{PutsAll, range_with_len, refl, Result, Rises, Rose, RunFits, subst, suc, sym, to_lt, Took, took_as, true, true≢false, WriterState, Writes, zero, ℕ, [], ◌&&◌, ◌+◌, ◌<◌, ◌^◌, ◌∙◌, ◌∷◌, ◌≡◌}
 use Rattle.tile_extract.proofs.Common.{◌≤◌}
 use Rattle.std.specs.FinMap.Entries.{below_all}
+use Rattle.pm_writer.proofs.AddedBytes.{data_run}
+use Rattle.pm_writer.proofs.RunTaken.{fits_again, run_filled, run_of_none}
+use Rattle.pm_writer.proofs.Took.{took_length}
+use Rattle.pm_writer.specs.Writing.{data_of}
 use Rattle.pm_format.specs.declared.compression.Compression.TheVariants as compression
 use Rattle.pm_format.specs.declared.error.PmtError.TheVariants as errors
 use Rattle.pm_format.specs.declared.error.ReadCause.TheVariants as causes
@@ -67,7 +71,7 @@ room_false o done id bytes unfit = never (nat_lt (length bytes) (2 ^ 32) && nat_
     let p = and_parts (nat_lt (length bytes) (2 ^ 32)) (nat_lt (data_end o (add_to done id bytes)) (2 ^ 64)) is in
     unfit (lt_by (length bytes) (2 ^ 32) p.0, lt_by (data_end o (add_to done id bytes)) (2 ^ 64) p.1))
 
-pub puts_next : (takes : List ℕ → List ℕ → Type 0) (o : Options) (bytes taken : List ℕ) (mid : List (ℕ × List ℕ)) (id : ℕ) (ids : List ℕ) (r : Result (List (ℕ × List ℕ)) ExtractError) → takes bytes taken → AddFits o mid id taken
+puts_next : (takes : List ℕ → List ℕ → Type 0) (o : Options) (bytes taken : List ℕ) (mid : List (ℕ × List ℕ)) (id : ℕ) (ids : List ℕ) (r : Result (List (ℕ × List ℕ)) ExtractError) → takes bytes taken → AddFits o mid id taken
     → PutsAll takes o bytes (add_to mid id taken) ids r → PutsAll takes o bytes mid (id ∷ ids) r
 puts_next takes o bytes taken mid id ids r take fits next =
     (taken, take, subst (λ t. ByRoom t (PutsAll takes o bytes (add_to mid id taken) ids r) (r ≡ Err IndexEntryOverflow)) (sym (room_true o mid id taken fits)) next)
@@ -78,27 +82,60 @@ puts_over takes o bytes taken mid id ids take unfit =
     let same : over ≡ over = refl in
     (taken, take, subst (λ t. ByRoom t (PutsAll takes o bytes (add_to mid id taken) ids over) (over ≡ over)) (sym (room_false o mid id taken unfit)) same)
 
--- what is put at the ids that are left is what is put at all
-abbrev pub PutsOn : (List ℕ → List ℕ → Type 0) → Options → List ℕ → List (ℕ × List ℕ) → List ℕ → List (ℕ × List ℕ) → List ℕ → Type 0
-PutsOn takes o bytes done all mid ids = (r : Result (List (ℕ × List ℕ)) ExtractError) → PutsAll takes o bytes mid ids r → PutsAll takes o bytes done all r
+-- a run, whose ids all have what its data is taken for
+pub same_ids : (a b m n : ℕ) → a ≡ b → m ≡ n → range_with_len a m ≡ range_with_len b n
+same_ids a b m n p q = rw (p, q) refl
 
--- an add that is refused
-pub add_refused : (o : Options) (bytes taken : List ℕ) (done : List (ℕ × List ℕ)) (all : List ℕ) (mid : List (ℕ × List ℕ)) (id : ℕ) (ids : List ℕ) (told : Option (List ℕ)) (s : WriterState) (failed : Bool) (before now : ℕ) (e : PmtError)
-    → failed ≡ false → PutsOn (Took told) o bytes done all mid (id ∷ ids) → Took told bytes taken → AddCauses compression.None failed (length bytes) (AddFits o mid id taken) before now (Err e) → Puts o bytes done all told s (Err (of_write_error e))
-add_refused o bytes taken done all mid id ids told s failed before now errors.Failed alive so take c = absurd (true≢false (sym c ∙ alive))
-add_refused o bytes taken done all mid id ids told s failed before now (errors.UnsupportedCompression label) alive so take c = absurd (c.2 refl)
-add_refused o bytes taken done all mid id ids told s failed before now errors.IndexEntryOverflow alive so take c = so (Err IndexEntryOverflow) (puts_over (Took told) o bytes taken mid id ids take c.2)
-add_refused o bytes taken done all mid id ids told s failed before now (errors.Reading causes.Fault) alive so take c = tt
-add_refused o bytes taken done all mid id ids told s failed before now errors.OutOfMemory alive so take c = tt
-add_refused o bytes taken done all mid id ids told s failed before now e alive so take c = absurd c
+fits_on : (o : Options) (done : List (ℕ × List ℕ)) (id n : ℕ) (taken : List ℕ) → AddFits o done id taken → RunFits o (add_to done id taken) (id + 1) n taken
+fits_on o done id zero taken fits = tt
+fits_on o done id (suc n) taken fits = fits_again o done id (id + 1) taken fits
 
-pub add_faulted : (size : ℕ) (fits : Type 0) (failed : Bool) (start before now : ℕ) (e : PmtError) → failed ≡ false → start ≤ before → AddCauses compression.None failed size fits before now (Err e) → of_write_error e ≡ MediumFault → Rose start now
-add_faulted size fits failed start before now errors.Failed alive le c is = absurd (true≢false (sym c ∙ alive))
-add_faulted size fits failed start before now (errors.UnsupportedCompression label) alive le c is = absurd (c.2 refl)
-add_faulted size fits failed start before now errors.IndexEntryOverflow alive le c is = absurd (cc)
-add_faulted size fits failed start before now (errors.Reading causes.Fault) alive le c is = omega (arith, le, c.4)
-add_faulted size fits failed start before now errors.OutOfMemory alive le c is = absurd (cc)
-add_faulted size fits failed start before now e alive le c is = absurd c
+puts_run : (takes : List ℕ → List ℕ → Type 0) (o : Options) (bytes taken : List ℕ) (n id : ℕ) (done : List (ℕ × List ℕ)) → takes bytes taken → RunFits o done id n taken → PutsAll takes o bytes done (range_with_len id n) (Ok (add_run_to done id n taken))
+puts_run takes o bytes taken zero id done take fits = refl
+puts_run takes o bytes taken (suc n) id done take fits =
+    puts_next takes o bytes taken done id (range_with_len (id + 1) n) (Ok (add_run_to (add_to done id taken) (id + 1) n taken)) take fits
+    (puts_run takes o bytes taken n (id + 1) (add_to done id taken) take (fits_on o done id n taken fits))
+
+-- which ends where its first id does
+run_ends : (o : Options) (done : List (ℕ × List ℕ)) (id n : ℕ) (bytes : List ℕ) → data_end o (add_run_to done id (suc n) bytes) ≡ data_end o (add_to done id bytes)
+run_ends o done id n [] = ap (data_end o) (run_of_none done id (suc n) [] refl)
+run_ends o done id n (b ∷ bytes) =
+    let x = b ∷ bytes in
+    let some : 0 < length x = omega arith in
+    let same : data_of (add_run_to done id (suc n) x) ≡ data_of (add_to done id x) = sym (ap data_of (run_filled done id (suc n) x some)) ∙ data_run done id (suc n) x (omega arith) in
+    omega (arith, ap length same)
+
+run_fits : (told new : Option (List ℕ)) (o : Options) (s : WriterState) (done : List (ℕ × List ℕ)) (id n : ℕ) (given taken other : List ℕ) → Writes o new s (add_run_to done id n taken) → has_failed s ≡ false → Took told given taken → Took told given other → RunFits o done id n other
+    → RunFits o done id n taken
+run_fits told new o s done id zero given taken other w alive t u fits = tt
+run_fits told new o s done id (suc n) given taken other w alive t u fits = (omega (arith, took_length told given taken t, took_length told given other u, fits.0), omega (arith, run_ends o done id n taken, (w.held alive).ends))
+
+pub run_added : (told new : Option (List ℕ)) (o : Options) (s : WriterState) (done : List (ℕ × List ℕ)) (id n : ℕ) (given taken other : List ℕ) → is_some new ≡ is_some told → Writes o new s (add_run_to done id n taken) → has_failed s ≡ false → Took told given taken → Took told given other → RunFits o done id n other
+    → Puts o given done (range_with_len id n) new s (Ok tt)
+run_added told new o s done id n given taken other same w alive t u fits =
+    (add_run_to done id n taken, puts_run (Took new) o given taken n id done (took_as (λ takes. takes given taken) told new same t) (run_fits told new o s done id n given taken other w alive t u fits), w)
+
+-- a run that is refused
+run_over : (takes : List ℕ → List ℕ → Type 0) (o : Options) (bytes taken : List ℕ) (done : List (ℕ × List ℕ)) (id n : ℕ) → takes bytes taken → (RunFits o done id n taken → ⊥) → PutsAll takes o bytes done (range_with_len id n) (Err IndexEntryOverflow)
+run_over takes o bytes taken done id zero take unfit = absurd (unfit tt)
+run_over takes o bytes taken done id (suc n) take unfit = puts_over takes o bytes taken done id (range_with_len (id + 1) n) take unfit
+
+pub run_refused : (told new : Option (List ℕ)) (o : Options) (given taken : List ℕ) (done : List (ℕ × List ℕ)) (id n size : ℕ) (s : WriterState) (failed : Bool) (before now : ℕ) (e : PmtError) → is_some new ≡ is_some told → failed ≡ false → Took told given taken
+    → AddCauses compression.None failed size (RunFits o done id n taken) before now (Err e) → Puts o given done (range_with_len id n) new s (Err (of_write_error e))
+run_refused told new o given taken done id n size s failed before now errors.Failed same alive take c = absurd (true≢false (sym c ∙ alive))
+run_refused told new o given taken done id n size s failed before now (errors.UnsupportedCompression label) same alive take c = absurd (c.2 refl)
+run_refused told new o given taken done id n size s failed before now errors.IndexEntryOverflow same alive take c = run_over (Took new) o given taken done id n (took_as (λ takes. takes given taken) told new same take) c.2
+run_refused told new o given taken done id n size s failed before now (errors.Reading causes.Fault) same alive take c = tt
+run_refused told new o given taken done id n size s failed before now errors.OutOfMemory same alive take c = tt
+run_refused told new o given taken done id n size s failed before now e same alive take c = absurd c
+
+pub add_faulted : (size : ℕ) (fits : Type 0) (failed : Bool) (before now : ℕ) (e : PmtError) → failed ≡ false → AddCauses compression.None failed size fits before now (Err e) → of_write_error e ≡ MediumFault → Rose before now
+add_faulted size fits failed before now errors.Failed alive c is = absurd (true≢false (sym c ∙ alive))
+add_faulted size fits failed before now (errors.UnsupportedCompression label) alive c is = absurd (c.2 refl)
+add_faulted size fits failed before now errors.IndexEntryOverflow alive c is = absurd (cc)
+add_faulted size fits failed before now (errors.Reading causes.Fault) alive c is = c.4
+add_faulted size fits failed before now errors.OutOfMemory alive c is = absurd (cc)
+add_faulted size fits failed before now e alive c is = absurd c
 
 pub err_is : (x y : ExtractError) → ◌≡◌ {A = Result Unit ExtractError} (Err x) (Err y) → x ≡ y
 err_is x y e = cc

@@ -18,13 +18,13 @@ pub use Rattle.pm_walk.specs.Walk.{entry_walk, fits_depth, nothing_met, rises, s
 pub use Rattle.pm_walk.specs.declared.extent.Extent.TheVariants.{Within}
 pub use Rattle.pm_writer.proofs.Canonical.{canon_is, entries_sorted}
 pub use Rattle.pm_writer.proofs.Sorted.{adds_distinct, sorted_formed, tile_found}
-pub use Rattle.pm_writer.proofs.Took.{took_as, written_fits}
+pub use Rattle.pm_writer.proofs.Took.{took_as}
 pub use Rattle.pm_writer.specs.Archive.{tile_in}
 pub use Rattle.pm_writer.specs.Bounds.{AllSized, OptionsFit}
 pub use Rattle.pm_writer.specs.Causes.{AddCauses, FinishCauses}
 pub use Rattle.pm_writer.specs.Pieces.{IsHiddenOr}
 pub use Rattle.pm_writer.specs.Took.{Took}
-pub use Rattle.pm_writer.specs.Writing.{AddFits}
+pub use Rattle.pm_writer.specs.Writing.{add_run_to, AddFits, RunFits}
 pub use Rattle.pm_writer.specs.declared.state.WriterState.{WriterState}
 pub use Rattle.std.proofs.Common.{OnOk, ◌||◌, ◌%◌, ◌/◌, ◌==◌, ◌↔◌}
 pub use Rattle.std.proofs.Common.{All, ap, arith, Bool, codes, cond, drop, Err, false, FitsSigned, IfSome, if◌then◌else◌, inl, inr, is_some, IsSome, length, length-append, length-take, List, max, min}

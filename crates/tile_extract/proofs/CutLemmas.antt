@@ -1,6 +1,6 @@
 -- The tiles of the part that is extracted, by the parts of the tile entries that are met.
 use Rattle.tile_extract.proofs.Common.{and_parts, ap, archive_map, archive_tile, AreApart, AreOrdered, arith, Bool, clip_all, clips_inside, clips_none, TilePart, covering, covering_behind, covers_here}
-use Rattle.tile_extract.proofs.Common.{covers_later, cut, empty_held, Entry, Err, false, filled, has_id, Header, held, if◌then◌else◌, in_intervals, inl, inr, IsPartOf, length, List}
+use Rattle.tile_extract.proofs.Common.{covers_later, cut, empty_held, Entry, Err, false, filled, has_id, Header, held, if◌then◌else◌, in_intervals, inl, inr, IsPartOf, List}
 use Rattle.tile_extract.proofs.Common.{MAX_TILE_ID, met_of, nat_eq, nat_le, nat_lt, nat_tests, None, none_below, none_past, Ok, Opened, opened, Option, parts, parts_none, parts_of, parts_ordered}
 use Rattle.tile_extract.proofs.Common.{parts_outside, PmtError, range_of, refl, Result, Some, sym, true, Within, ℕ, [], ◌++◌, ◌+◌, ◌<◌, ◌∙◌, ◌∷◌, ◌≡◌}
 use Rattle.pm_format.specs.declared.error.PmtError.TheVariants as errors

@@ -1,6 +1,6 @@
 -- The archive of parts, finished or refused.
-use Rattle.tile_extract.proofs.Common.{adds_distinct, archive, ArchivePlaces, arith, Bool, ComesTo, Entry, Err, false, FinishCauses, Header, IfSome, IndexEntryOverflow, inl, inr, is_some, IsHiddenOr}
-use Rattle.tile_extract.proofs.Common.{IsWritten, List, None, of_write_error, Ok, one_told, Option, Options, OutOfMemory, PartsAdded, PartsOverflow, places_of, PmtError, ShowsNone, Some, sym}
+use Rattle.tile_extract.proofs.Common.{adds_distinct, archive, ArchivePlaces, arith, Bool, ComesTo, Entry, Err, false, FinishCauses, Header, IfSome, inl, inr, is_some, IsHiddenOr}
+use Rattle.tile_extract.proofs.Common.{IsWritten, List, None, of_write_error, Ok, one_told, Option, Options, PartsAdded, PartsOverflow, places_of, PmtError, ShowsNone, Some, sym}
 use Rattle.tile_extract.proofs.Common.{true≢false, WriteCauses, WriterState, WritesParts, ℕ, ◌∙◌, ◌≡◌, ◌≤◌}
 use Rattle.pm_format.specs.declared.error.PmtError.TheVariants as errors
 use Rattle.pm_format.specs.declared.error.ReadCause.TheVariants as causes

@@ -1,5 +1,5 @@
 -- Intervals that are gathered in the order of ids.
-use Rattle.tile_extract.proofs.Common.{AllWanted, ap, AreApart, AreParted, arith, Bool, false, Gathered, in_intervals, lies_in, List, nat_le, nat_lt, nat_tests, PartedBelow, refl, subst, sym, true, ℕ, [], ◌&&◌, ◌++◌, ◌+◌, ◌<◌, ◌||◌, ◌∙◌, ◌∷◌, ◌≡◌, ◌≢◌, ◌≤◌}
+use Rattle.tile_extract.proofs.Common.{AllWanted, ap, AreApart, AreParted, arith, Bool, false, Gathered, in_intervals, lies_in, List, nat_le, nat_lt, nat_tests, PartedBelow, refl, sym, true, ℕ, [], ◌&&◌, ◌++◌, ◌+◌, ◌<◌, ◌||◌, ◌∙◌, ◌∷◌, ◌≡◌, ◌≤◌}
 
 -- no interval yet
 pub none_gathered : (wanted : ℕ → Bool) → Gathered wanted 0 []

@@ -1,6 +1,6 @@
 -- Adds in intervals, and how many they are.
-use Rattle.tile_extract.proofs.Common.{add_to, Adds, AddsLieIn, ap, arith, Bool, cond, eq_by_cmp, false, find, has_room, in_intervals, length, length-append, List, nat_cmp, nat_tests, Ok, Options}
-use Rattle.tile_extract.proofs.Common.{PutsAll, range_with_len, refl, Some, subst, suc, sym, true, zero, ℕ, [], ◌+◌, ◌-◌, ◌<◌, ◌∷◌, ◌≡◌, ◌≤◌}
+use Rattle.tile_extract.proofs.Common.{add_to, Adds, AddsLieIn, ap, AreOrdered, arith, Bool, cond, Entry, eq_by_cmp, false, find, has_room, in_intervals, length, length-append, List, nat_cmp, nat_tests, Ok, Option, Options}
+use Rattle.tile_extract.proofs.Common.{PutsAll, range_with_len, refl, Some, subst, suc, sym, tile_count, true, zero, ℕ, [], ◌+◌, ◌<◌, ◌∷◌, ◌≡◌, ◌≤◌}
 use Rattle.tile_extract.proofs.AddedLemmas.{ok_is, with_room}
 
 adds_add : (is : List (ℕ × ℕ)) (done : Adds) (id : ℕ) (taken : List ℕ) → in_intervals id is ≡ true → AddsLieIn is done → AddsLieIn is (add_to done id taken)
@@ -33,3 +33,8 @@ found_lies is (a ∷ adds) id bytes w at = by_test (eq_by_cmp nat_cmp id a.0) re
     by_test : (t : Bool) → eq_by_cmp nat_cmp id a.0 ≡ t → (find nat_cmp id adds ≡ Some bytes → in_intervals id is ≡ true) → cond t (Some a.1) (find nat_cmp id adds) ≡ Some bytes → in_intervals id is ≡ true
     by_test true test rest at = let same : id ≡ a.0 = grind (arith, nat_tests) in subst (λ n. in_intervals n is ≡ true) (sym same) w.0
     by_test false test rest at = rest at
+
+-- parts have at least one id each
+pub as_many_ids : (low : ℕ) (ps : List Entry) (end : Option ℕ) → AreOrdered low ps end → length ps ≤ tile_count ps
+as_many_ids low [] end order = omega arith
+as_many_ids low (p ∷ ps) end order = let rest = as_many_ids (p.tile_id + p.run_length) ps end order.3 in omega (arith, order.1, rest)

@@ -1,5 +1,5 @@
 -- The numbers of the code: places of tiles and ids, as they are shifted and added.
-use Rattle.tile_extract.proofs.Common.{ap, area_of, arith, block_start, Coord, id_of, IsCoord, MAX_TILE_ID, number_of, pyramid, PYRAMID_SIZE_BY_ZOOM, refl, subst, suc, sym, tile_id, ZoomBox, ℕ, ◌%◌, ◌*◌, ◌+◌, ◌-◌, ◌<◌, ◌^◌, ◌∙◌, ◌≡◌, ◌≤◌}
+use Rattle.tile_extract.proofs.Common.{ap, area_of, arith, Coord, id_of, IsCoord, MAX_TILE_ID, number_of, pyramid, PYRAMID_SIZE_BY_ZOOM, subst, suc, sym, tile_id, ZoomBox, ℕ, ◌%◌, ◌*◌, ◌+◌, ◌-◌, ◌<◌, ◌^◌, ◌∙◌, ◌≡◌, ◌≤◌}
 use Rattle.std.proofs.Common.{get_or, lit<}
 use Rattle.std.proofs.Math.Nat.{mul-le-mul_right, pow-le-pow_right, pow-succ'}
 use Rattle.std.proofs.lemmas.Nat.{pow-add, pow_pos}

@@ -1,6 +1,6 @@
 -- The ids of a quadrant, and which of them are wanted.
-use Rattle.tile_extract.proofs.Common.{AllWanted, ap, area_of, arith, block_start, Bool, box_covers, box_holds, box_meets, boxes_hold, Coord, coord_of, false, filter, Gathered, id_of, in_boxes, in_intervals, IsCoord, IsDescendant, list_any, List}
-use Rattle.tile_extract.proofs.Common.{MAX_TILE_ID, nat_eq, nat_le, nat_lt, nat_tests, number_of, inl, inr, pyramid, refl, subst, suc, sym, true, true≢false, Wants, zero, ZoomBox, ℕ, [], ◌&&◌, ◌*◌, ◌+◌, ◌-◌, ◌<◌, ◌==◌, ◌^◌, ◌∙◌, ◌∷◌, ◌≡◌, ◌≤◌, ◌⊎◌}
+use Rattle.tile_extract.proofs.Common.{AllWanted, ap, area_of, arith, block_start, Bool, box_covers, box_holds, box_meets, boxes_hold, Coord, coord_of, false, filter, Gathered, id_of, in_boxes, in_intervals, IsCoord, list_any, List}
+use Rattle.tile_extract.proofs.Common.{MAX_TILE_ID, nat_le, nat_lt, nat_tests, number_of, inl, inr, pyramid, refl, suc, sym, true, true≢false, Wants, ZoomBox, ℕ, ◌&&◌, ◌*◌, ◌+◌, ◌-◌, ◌<◌, ◌==◌, ◌^◌, ◌∙◌, ◌≡◌, ◌≤◌, ◌⊎◌}
 use Rattle.tile_extract.proofs.GatheringLemmas.{passed}
 use Rattle.std.proofs.lemmas.Map.Views.{any-filter_same}
 use Rattle.std.proofs.Math.Nat.{pow-succ'}

@@ -1,5 +1,5 @@
 -- Entries of directories have lengths below 2^32.
-use Rattle.tile_extract.proofs.Common.{ap, Bool, column, dir_of, entries_of, Entry, Err, false, Header, ids_from, if◌then◌else◌, leaf_of, length, List, lt_by, nat_lt, None, none-some, offsets_from}
+use Rattle.tile_extract.proofs.Common.{ap, Bool, column, dir_of, entries_of, Entry, Err, false, Header, ids_from, if◌then◌else◌, leaf_of, List, lt_by, nat_lt, None, none-some, offsets_from}
 use Rattle.tile_extract.proofs.Common.{Ok, Opened, opened, Option, option_map, PmtError, range_of, refl, Result, Some, subst, suc, true, zero, ℕ, [], ◌+◌, ◌<◌, ◌^◌, ◌∷◌, ◌≡◌}
 use Rattle.pm_format.specs.declared.error.PmtError.TheVariants as errors
 use Rattle.pm_format.specs.declared.error.ReadCause.TheVariants as causes

@@ -1,6 +1,6 @@
 // The tiles of parts, written to a medium.
 ghost use Rattle.std.specs.Prelude.{◌≡◌, ◌+◌, ◌≤◌, [], length, false, IfSome, OnOk, IsErrOf, None};
-ghost use Rattle.tile_extract.specs.Common.{AreOrdered, has_failed, header_of, KeepsMedium, Options, ReadsOnly, Rose, tile_count, Writes};
+ghost use Rattle.tile_extract.specs.Common.{AreOrdered, has_failed, header_of, KeepsMedium, Options, ReadsOnly, Rose, Writes};
 ghost use Rattle.tile_ids.specs.declared.id.TheConstants.{MAX_TILE_ID};
 ghost use Rattle.pm_format.specs.declared.compression.Compression.TheVariants as compression;
 ghost use Rattle.pm_writer.specs.Adding.{WhereWrites, WritesSome};
@@ -12,6 +12,7 @@ use pm_format::{Backend, DirEntry, Medium, PmtError};
 use pm_reader::ReaderState;
 use pm_writer::{ArchivePlaces, PmTilesWriter, WriterState};
 use std::alloc::Global;
+use tile_hash::xxh3_64;
 
 /// The extraction's word for the error of a writer.
 fn of_writer(error: PmtError) -> ExtractError
@@ -34,7 +35,7 @@ pub(crate) fn of_reader(error: PmtError) -> ExtractError
     }
 }
 
-// Adds the contents of a part at each of its ids.
+// Adds the contents of a part at each of its ids. They are compared, and stored, once.
 fn add_part<M: Medium>(
     writer: &mut WriterState,
     medium: &mut M,
@@ -51,16 +52,14 @@ fn add_part<M: Medium>(
     ensures fault { IsErrOf result ExtractError.MediumFault
         → Rose (M.faults medium.old) (M.faults medium.new) }
     ensures still { MediumStands (M.faults medium.old) (M.faults medium.new) result }
-    ensures compared { M.reads medium.new ≤ M.reads medium.old + part.run_length }
+    ensures compared { M.reads medium.new ≤ M.reads medium.old + 1 }
     ensures kept { KeepsMedium M.told M.versions M.reads M.faults M.steady medium.old medium.new }
 {
-    for id in part.iter_coords() {
-        match writer.add_raw_tile_by_id(medium, id, bytes) {
-            Ok(()) => {}
-            Err(error) => return Err(of_writer(error)),
-        }
+    let (first, count) = (part.tile_id(), part.run_length());
+    match writer.add_raw_run_with_digest(medium, first, count, xxh3_64(bytes), bytes) {
+        Ok(()) => Ok(()),
+        Err(error) => Err(of_writer(error)),
     }
-    Ok(())
 }
 
 // Adds the contents of parts at their ids, in order. The contents of each part are read once.
@@ -85,7 +84,7 @@ fn add_parts<B: Backend, M: Medium>(
     ensures medium_still { MediumStands (M.faults medium.old) (M.faults medium.new) result }
     ensures source_kept { ReadsOnly B.told B.versions B.faults B.steady source.old source.new }
     ensures reads { B.reads source.new ≤ B.reads source.old + length parts.now }
-    ensures compared { M.reads medium.new ≤ M.reads medium.old + tile_count parts.now }
+    ensures compared { M.reads medium.new ≤ M.reads medium.old + length parts.now }
     ensures medium_kept { KeepsMedium M.told M.versions M.reads M.faults M.steady
         medium.old medium.new }
 {
@@ -126,7 +125,7 @@ pub fn write_parts<B: Backend, M: Medium>(
     ensures medium_still { MediumStands (M.faults medium.old) (M.faults medium.new) result }
     ensures source_kept { ReadsOnly B.told B.versions B.faults B.steady source.old source.new }
     ensures reads { B.reads source.new ≤ B.reads source.old + length parts.now }
-    ensures compared { M.reads medium.new ≤ M.reads medium.old + tile_count parts.now }
+    ensures compared { M.reads medium.new ≤ M.reads medium.old + length parts.now }
     ensures medium_kept { KeepsMedium M.told M.versions M.reads M.faults M.steady
         medium.old medium.new }
 {

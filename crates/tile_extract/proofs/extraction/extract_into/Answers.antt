@@ -1,5 +1,6 @@
-use Rattle.tile_extract.proofs.Common.{ap, Err, header_of, IfSome, Ok, part_options, root_of, ShowsNone, subst, sym, WritesParts, ◌∙◌}
+use Rattle.tile_extract.proofs.Common.{ap, arith, Err, header_of, IfSome, length, None, Ok, part_options, root_of, ShowsNone, subst, sym, WritesParts, ◌∙◌}
 use Rattle.tile_extract.proofs.DoneLemmas.{err_answers, err_leaves, err_uncompared, ok_answers, ok_leaves}
+use Rattle.tile_extract.proofs.LyingLemmas.{as_many_ids}
 use Rattle.tile_extract.proofs.PlanLemmas.{collect_causes, early_leaves}
 use Rattle.tile_extract.proofs.PlanToldLemmas.{answered, planned, uncollected}
 use Rattle.tile_extract.proofs.extraction.extract_into.Goals as goal
@@ -85,3 +86,13 @@ returns-clause-uncompared g c =
     (c.part_options-options.ensures ∙ ap (λ k. part_options k c.in-Ok.read.1 c.args.part.now) c.get_header.ensures) (c.collect_intervals.ensures.kept.told ∙ c.read_source.ensures.kept.told) (sym c.write_parts.ensures.medium_kept.tells)
     (planned c.args.part.now c.args.max_tiles c.in-Ok.read.0 c.in-Ok.read.1 items told (g.B.Backend.told c.read_source.new.source) c.read_source.ensures.kept.told c.in-Ok.ensures.answer c.in-Ok-collect_intervals.ensures.collected) c.in-Err-write_parts.ensures.causes
     (subst (λ l. WritesParts c.part_options-options.result h again l held (Err c.in-Err-write_parts.error)) c.deref.ensures.value c.in-Err-write_parts.ensures.written)
+
+pub returns-in-Ok-write_parts-clause-compared : goal.returns-in-Ok-write_parts-clause-compared
+returns-in-Ok-write_parts-clause-compared g c =
+    let items = c.in-Ok-collect_intervals.parts.items in
+    omega (arith, c.write_parts.ensures.compared, as_many_ids 0 items None c.in-Ok-collect_intervals.ensures.ordered, c.in-Ok-collect_intervals.ensures.few, ap length c.deref.ensures.value)
+
+pub returns-clause-compared : goal.returns-clause-compared
+returns-clause-compared g c =
+    let items = c.in-Ok-collect_intervals.parts.items in
+    omega (arith, c.write_parts.ensures.compared, as_many_ids 0 items None c.in-Ok-collect_intervals.ensures.ordered, c.in-Ok-collect_intervals.ensures.few, ap length c.deref.ensures.value)

@@ -1,4 +1,4 @@
-use Rattle.tile_extract.proofs.Common.{ap, arith, Err, Gives, header_of, IfSome, length, medium_then, no_items, Ok, PartsPut, range_read, reads_then, subst, sym, tile_count, ◌+◌, ◌∙◌, ◌∷◌, ◌≡◌}
+use Rattle.tile_extract.proofs.Common.{ap, arith, Err, Gives, header_of, IfSome, length, medium_then, no_items, Ok, PartsPut, range_read, reads_then, subst, sym, ◌+◌, ◌∙◌, ◌∷◌, ◌≡◌}
 use Rattle.tile_extract.proofs.PartsLemmas.{put_all_parts, put_more, put_refused, read_at, read_refused, rest_ordered}
 use Rattle.tile_extract.proofs.writing.add_parts.Goals as goal
 
@@ -19,7 +19,7 @@ loop-part-preserved-in-Ok-add_part g c =
       (c.in-Some.part.now.tile_id + c.in-Some.part.now.run_length, rest_ordered i.3.0 c.loop-part.rest.now c.in-Some.part.now c.in-Some.others.now c.in-Some.ensures.cases.0 i.3.1),
       reads_then _ _ _ _ _ _ _ i.4 k,
       medium_then _ _ _ _ _ _ _ _ i.5 a.kept,
-      let n : tile_count c.loop-part.rest.now ≡ tile_count (c.in-Some.part.now ∷ c.in-Some.others.now) = ap tile_count c.in-Some.ensures.cases.0 in omega (arith, i.6, a.compared, n),
+      let n : length c.loop-part.rest.now ≡ length (c.in-Some.part.now ∷ c.in-Some.others.now) = ap length c.in-Some.ensures.cases.0 in omega (arith, i.6, a.compared, n),
       let n : length c.loop-part.rest.now ≡ length (c.in-Some.part.now ∷ c.in-Some.others.now) = ap length c.in-Some.ensures.cases.0 in omega (arith, i.7, c.read_contents.ensures.reads.most, n),
       c.in-Ok.ensures.still ∙ i.8,
       a.still ∙ i.9,
@@ -42,7 +42,7 @@ loop-part-preserved g c =
       (c.in-Some.part.now.tile_id + c.in-Some.part.now.run_length, rest_ordered i.3.0 c.loop-part.rest.now c.in-Some.part.now c.in-Some.others.now c.in-Some.ensures.cases.0 i.3.1),
       reads_then _ _ _ _ _ _ _ i.4 k,
       medium_then _ _ _ _ _ _ _ _ i.5 a.kept,
-      let n : tile_count c.loop-part.rest.now ≡ tile_count (c.in-Some.part.now ∷ c.in-Some.others.now) = ap tile_count c.in-Some.ensures.cases.0 in omega (arith, i.6, a.compared, n),
+      let n : length c.loop-part.rest.now ≡ length (c.in-Some.part.now ∷ c.in-Some.others.now) = ap length c.in-Some.ensures.cases.0 in omega (arith, i.6, a.compared, n),
       let n : length c.loop-part.rest.now ≡ length (c.in-Some.part.now ∷ c.in-Some.others.now) = ap length c.in-Some.ensures.cases.0 in omega (arith, i.7, c.read_contents.ensures.reads.most, n),
       c.in-Ok.ensures.still ∙ i.8,
       a.still ∙ i.9,

@@ -1,4 +1,4 @@
-use Rattle.tile_extract.proofs.Common.{AreOrdered, false, has_failed, header_of, KeepsMedium, length, List, None, Options, ReadsOnly, tile_count, Writes, ℕ, [], ◌+◌, ◌≡◌, ◌≤◌}
+use Rattle.tile_extract.proofs.Common.{AreOrdered, false, has_failed, header_of, KeepsMedium, length, List, None, Options, ReadsOnly, Writes, ℕ, [], ◌+◌, ◌≡◌, ◌≤◌}
 use Rattle.tile_extract.proofs.PartsLemmas.{PutSoFar}
 use Rattle.tile_extract.proofs.writing.add_parts.Given as goal
 
@@ -10,7 +10,7 @@ invariant-loop-part g l =
     × ((low : ℕ) × AreOrdered low l.rest None)
     × ReadsOnly g.B.Backend.told g.B.Backend.versions g.B.Backend.faults g.B.Backend.steady l.fn.source l.source
     × KeepsMedium g.M.Backend.told g.M.Backend.versions g.M.Backend.reads g.M.Backend.faults g.M.Backend.steady l.fn.medium l.medium
-    × (g.M.Backend.reads l.medium + tile_count l.rest ≤ g.M.Backend.reads l.fn.medium + tile_count l.parts)
+    × (g.M.Backend.reads l.medium + length l.rest ≤ g.M.Backend.reads l.fn.medium + length l.parts)
     × (g.B.Backend.reads l.source + length l.rest ≤ g.B.Backend.reads l.fn.source + length l.parts)
     × (g.B.Backend.faults l.source ≡ g.B.Backend.faults l.fn.source)
     × (g.M.Backend.faults l.medium ≡ g.M.Backend.faults l.fn.medium)
