@@ -3,43 +3,27 @@ use crate::TOOL;
 use crate::saying::{refused, unread};
 use mb_load::load;
 use mb_loaded::Loaded;
-use mb_reading::{LeftOut, SetRead, read_file};
+use mb_reading::{SetRead, read_file};
 use mb_store::MemStore;
 use pm_format::status;
-use program_words::{SourceFile, begin_step, say_source_fault, source_file};
+use program_words::{
+    SourceFile, begin_step, say_misplaced, say_source_fault, say_unnamed, source_file,
+};
 use std::fs::File;
 use std::os::unix::fs::FileExt;
 
-// Tells which rows of tiles have no place in the grid. Whether all have one.
-fn say_misplaced(rt: &HostRuntime, path: &str, left: &LeftOut) -> bool {
-    let Some(first) = left.first else {
-        return true;
-    };
-    let (odd, deep, outside) = (left.without_number, left.too_deep, left.outside_grid);
-    let (zoom, column, row) = (first.zoom_level, first.tile_column, first.tile_row);
-    let _ = eprintln!(rt;
-        "{TOOL}: {path}: rows of tiles are left out: {odd} without numbers for a place, {deep} of zoom 31 or more, {outside} outside the grid; the first has zoom_level {zoom}, tile_column {column}, tile_row {row}"
-    );
-    false
-}
-
-// Tells which rows of metadata are left out. Whether none is.
-fn say_unnamed(rt: &HostRuntime, path: &str, left: &LeftOut) -> bool {
-    let (odd, again) = (left.without_text, left.repeated_names);
-    if odd == 0 && again == 0 {
-        return true;
-    }
-    let _ = eprintln!(rt;
-        "{TOOL}: {path}: rows of the metadata are left out: {odd} whose name or value is no text, {again} whose name stood before"
-    );
-    false
-}
-
 // The store of a set that was read, once what is left out of it is told.
 fn told(rt: &HostRuntime, path: &str, read: SetRead, is_strict: bool) -> Result<MemStore, u8> {
-    let SetRead { store, left_out } = read;
-    let tiles = say_misplaced(rt, path, &left_out);
-    let names = say_unnamed(rt, path, &left_out);
+    let SetRead {
+        store,
+        left_out: left,
+    } = read;
+    let counts = (left.without_number, left.too_deep, left.outside_grid);
+    let first = left
+        .first
+        .map(|it| (it.zoom_level, it.tile_column, it.tile_row));
+    let tiles = say_misplaced(rt, TOOL, path, counts, first);
+    let names = say_unnamed(rt, TOOL, path, left.without_text, left.repeated_names);
     if (tiles && names) || !is_strict {
         return Ok(store);
     }

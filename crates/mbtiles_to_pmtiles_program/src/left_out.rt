@@ -3,47 +3,12 @@ use crate::TOOL;
 use mb_reading::LeftOut;
 use mb_store::{StoreError, TileStore};
 use mb_tables::{Cell, Row, TableName};
+use program_words::{say_misplaced, say_unnamed};
 use set_conversion::ConversionOutcome;
 use set_options::is_understood;
 
 // How many rows of the metadata are read at once.
 const PAGE: u64 = 1_000;
-
-// "1 row is", or "5 rows are"
-fn counted(count: u64) -> (&'static str, &'static str) {
-    if count == 1 {
-        ("row", "is")
-    } else {
-        ("rows", "are")
-    }
-}
-
-// Tells which rows of tiles have no place in the grid. Whether all have one.
-fn say_misplaced(rt: &HostRuntime, path: &str, left: &LeftOut) -> bool {
-    let Some(first) = left.first else {
-        return true;
-    };
-    let (odd, deep, outside) = (left.without_number, left.too_deep, left.outside_grid);
-    let count = odd.saturating_add(deep).saturating_add(outside);
-    let (rows, are) = counted(count);
-    let (zoom, column, row) = (first.zoom_level, first.tile_column, first.tile_row);
-    let _ = eprintln!(rt;
-        "{TOOL}: {path}: {count} {rows} of tiles {are} left out: {odd} without numbers for a place, {deep} of zoom 31 or more, {outside} outside the grid; the first has zoom_level {zoom}, tile_column {column}, tile_row {row}"
-    );
-    false
-}
-
-// Tells how many rows of the metadata are left out for a reason. Whether there are none.
-fn say_names(rt: &HostRuntime, path: &str, count: u64, reason: &str) -> bool {
-    if count == 0 {
-        return true;
-    }
-    let (rows, are) = counted(count);
-    let _ = eprintln!(rt;
-        "{TOOL}: {path}: {count} {rows} of the metadata {are} left out: {reason}"
-    );
-    false
-}
 
 // Tells of a row of the metadata whose value isn't in the form that its name asks for. Whether it is.
 fn say_misread(rt: &HostRuntime, path: &str, row: &Row) -> Result<bool, ConversionOutcome> {
@@ -101,14 +66,12 @@ pub fn say_left_out<S: TileStore>(
     store: &mut S,
     left: &LeftOut,
 ) -> Result<bool, ConversionOutcome> {
-    let tiles = say_misplaced(rt, path, left);
-    let texts = say_names(
-        rt,
-        path,
-        left.without_text,
-        "their name or value is no text",
-    );
-    let once = say_names(rt, path, left.repeated_names, "their name stood before");
+    let counts = (left.without_number, left.too_deep, left.outside_grid);
+    let first = left
+        .first
+        .map(|it| (it.zoom_level, it.tile_column, it.tile_row));
+    let tiles = say_misplaced(rt, TOOL, path, counts, first);
+    let texts = say_unnamed(rt, TOOL, path, left.without_text, left.repeated_names);
     let names = say_metadata(rt, path, store)?;
-    Ok(tiles && texts && once && names)
+    Ok(tiles && texts && names)
 }

@@ -5,6 +5,7 @@
 mod beside;
 mod destination;
 mod folder;
+mod left_out;
 mod locked;
 mod over;
 mod said;
@@ -24,6 +25,7 @@ pub use destination::{
     Before, leave_destination, say_medium_fault, sync_destination, take_destination,
 };
 pub use folder::FileId;
+pub use left_out::{say_misplaced, say_unnamed};
 pub use over::{are_one_file, keep_access, put_over, take_over};
 use pm_format::status;
 pub use said::{
