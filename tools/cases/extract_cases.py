@@ -9,7 +9,7 @@ from cases.rows import Rows, size_and_digest, word
 from cases.sample_archives import CYCLE, HOSTILE, OF_ZOOM_ONE, ONE, TREES, root_of, some_leaves, tree
 from models import pmtiles as pm
 from models import readers
-from models.extraction import ALL, U32, Run, asked, clipped, label, spans
+from models.extraction import ALL, U32, Run, asked, label
 
 # Rows.
 
@@ -139,17 +139,10 @@ def runs():
                  [(0, 0, 1, 2), (2, 0, 1, GREAT)], [(0, 0, 1, 3), (2, 0, 1, 1)], [(0, 0, 1, GREAT), (GREAT, 0, 1, GREAT)], [(0, 0, 1, GREAT), (GREAT - 1, 0, 1, 1)]):
         hold(root_of(root, ONE))
         for words in WORDS + ('0 0 0 5 1365', '0 0 0 5 1364', '4 3 9 6 21', '4 3 9 6 20', '3 0 7 3 18446744073709551615', '31 2147483647 0 31 18446744073709551615', '0 0 0 31 4294967295', '0 0 0 31 4294967294'):
-            if not too_many(root, words):
-                run(words)
+            run(words)
     hold(root_of([(0, 0, 1, 1), (1, 5, 1, 1), (2, 0, 1, 1)], ONE))
     for words in WORDS + ('1 0 1 1 1',):
         run(words)
-
-
-def too_many(root, words):
-    """Whether tiles are as many as are extracted one by one, and no test."""
-    z, x, y, greatest, most = asked(words.split())
-    return sum(p[3] for p in clipped(root, spans(z, x, y, min(greatest, 31)))) > 3000 and most > 3000
 
 
 SOME = ('0 0 0 4 1000', '0 0 0 0 1', '1 0 0 4 300', '1 0 0 4 20', '2 1 1 4 300', '3 5 2 4 9', '3 7 0 9 9', '4 0 0 4 1', '1 1 0 3 50', '2 3 3 31 18446744073709551615')

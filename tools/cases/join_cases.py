@@ -31,14 +31,19 @@ def begin(data):
     row('extract begin ' + word(data))
 
 
-def run(most=10_000, medium_fails=0, hindered=0, source_fails=0):
+def joined(most, medium_fails=0, hindered=0, source_fails=0):
     """A join of what is held."""
     done = Join(Held.sources, Held.begun, medium_fails, hindered, source_fails)
-    said = done.result(most)
-    row(f'join run {medium_fails} {hindered} {source_fails} {most}', said, label(done.held), *(it.calls for it in done.asked))
+    row(f'join run {medium_fails} {hindered} {source_fails} {most}', done.result(most), label(done.held), *(it.calls for it in done.asked))
     if done.held is not None:
         row('extract digest', *size_and_digest(done.held))
-    if said.startswith('Ok'):
+    return done
+
+
+def run(most=10_000, medium_fails=0, hindered=0, source_fails=0):
+    """The same, and whether it has the tiles of its sources."""
+    done = joined(most, medium_fails, hindered, source_fails)
+    if done.is_done:
         assert tiles_of([done.held]) == tiles_of(Held.sources)
     return done
 
@@ -100,6 +105,27 @@ def runs():
                         ([(0, 0, 1, 1)], [(pm.LAST, 0, 1, 2)]), ([(0, 0, 0, 9)], [(3, 0, 1, 1)]), ([(0, 0, 1, 3)], [(1, 0, 0, 1)]), ([(0, 0, 1, 3), (2, 0, 1, 1)], [(1, 0, 1, 1)])):
         hold(root_of(root, ONE), root_of(other, ONE))
         run(20)
+
+
+def long_runs():
+    """Runs of up to 2^32 - 1 ids, which cost what one tile does: cut by others, side by side, and put together again."""
+    half, full = 1 << 31, pm.LONGEST
+    sea, land = archive_of({5: b'sea'}), archive_of({9: b'land'})
+    for sources, wanted in ((([(0, 0, 3, half)], sea), ([(half // 2, 0, 4, 1)], land)), [(0, 0, 3, half // 2), (half // 2, 3, 4, 1), (half // 2 + 1, 0, 3, half // 2 - 1)]), \
+            ((([(half // 2, 0, 4, 1)], land), ([(0, 0, 3, half)], sea)), [(0, 0, 3, half)]), \
+            ((([(0, 0, 3, half)], sea), ([(half // 2, 0, 3, 1)], sea)), [(0, 0, 3, half)]), \
+            ((([(0, 0, 3, full)], sea), ([(full, 0, 3, full)], sea)), [(0, 0, 3, full), (full, 0, 3, full)]), \
+            ((([(full, 0, 3, full)], sea), ([(1, 0, 3, full - 1)], sea)), [(1, 0, 3, full), (full + 1, 0, 3, full - 1)]), \
+            ((([(7, 0, 3, full - 1)], sea), ([(full + 6, 0, 3, 9)], sea)), [(7, 0, 3, full), (full + 7, 0, 3, 8)]), \
+            ((([(7, 0, 3, 9)], sea), ([(16, 0, 3, full)], sea), ([(full + 16, 0, 4, full)], land)), [(7, 0, 3, full), (full + 7, 0, 3, 9), (full + 16, 3, 4, full)]), \
+            ((([(pm.LAST - full + 1, 0, 3, full)], sea), ([(pm.LAST, 0, 4, 1)], land)), [(pm.LAST - full + 1, 0, 3, full - 1), (pm.LAST, 3, 4, 1)]):
+        hold(*(root_of(root, data) for root, data in sources))
+        said = joined(1 << 34)
+        assert said.held is not None and readers.opened(said.held)[1] == wanted
+        for most in (0, half, sum(run for *_, run in wanted) - 1):
+            joined(most)
+        for n in range(1, said.medium.calls + 2):
+            joined(1 << 34, n)
 
 
 def labels():
@@ -189,7 +215,7 @@ def random_lists():
 
 
 def write():
-    for rows in (known_archives, runs, labels, metadata, hostile, trees, failing, random_lists):
+    for rows in (known_archives, runs, long_runs, labels, metadata, hostile, trees, failing, random_lists):
         rows()
     for words in ('join', 'join run', 'join run 0 0 0', 'join run 0 0 x 1', 'join other'):
         archive_program.refused(words)

@@ -129,16 +129,15 @@ class Run:
         return h, text, parts
 
     def add(self, h, parts):
-        """The tiles of parts, each read once from the source, and the calls of the medium that their adds make."""
-        adds, known = [], pm.Contents()
+        """The runs of parts, each read once from the source, and the calls of the medium that they make."""
+        runs, known = [], pm.Contents()
         for first, offset, length, run in parts:
             self.source.read(h['data_offset'], offset, length)
             content = of_archive(lambda: readers.part(self.data, h['data_offset'], offset, length))
-            for i in range(run):
-                for call in known.calls(content):
-                    self.write() if call == 'write' else self.medium.call()
-                adds.append((first + i, content))
-        return adds
+            for call in known.calls(content):
+                self.write() if call == 'write' else self.medium.call()
+            runs.append((first, run, content))
+        return runs
 
     def extract(self, z, x, y, greatest, most):
         """The archive of a tile and its descendants."""
@@ -155,8 +154,8 @@ class Run:
         h, text, parts = self.parts(wanted(), most)
         for _ in ('room for the root', 'metadata'):
             self.write()
-        adds = self.add(h, parts)
-        archive, places = pm.archive(adds, text, min_zoom=least, max_zoom=greatest, **{name: h[name] for name in LABELS})
+        runs = self.add(h, parts)
+        archive, places = pm.archive_of_runs(runs, text, min_zoom=least, max_zoom=greatest, **{name: h[name] for name in LABELS})
         for _ in ('leaves', 'root', 'header', 'label of directories'):
             self.write()
         self.held = archive

@@ -42,7 +42,7 @@ class Join:
     """One join of sources, of which that with a number has a read that fails, 0 for none."""
 
     def __init__(self, sources, begun, medium_fails, hindered, source_fails):
-        self.sources, self.begun, self.held = sources, begun, begun
+        self.sources, self.begun, self.held, self.is_done = sources, begun, begun, False
         self.asked = [Calls(source_fails if k == hindered else 0, 'Refused(Archive(Reading(Fault)))') for k in range(len(sources))]
         self.medium = Calls(medium_fails, 'MediumFault')
 
@@ -76,17 +76,16 @@ class Join:
         return of_archive(lambda: readers.metadata(self.sources[k])).encode()
 
     def add(self, headers, pieces):
-        adds, known = [], pm.Contents()
+        runs, known = [], pm.Contents()
         for first, offset, length, run, k in pieces:
             def content():
                 self.asked[k].read(headers[k]['data_offset'], offset, length)
                 return of_archive(lambda: readers.part(self.sources[k], headers[k]['data_offset'], offset, length))
             data = of_source(k, content)
-            for i in range(run):
-                for call in known.calls(data):
-                    self.write() if call == 'write' else self.medium.call()
-                adds.append((first + i, data))
-        return adds
+            for call in known.calls(data):
+                self.write() if call == 'write' else self.medium.call()
+            runs.append((first, run, data))
+        return runs
 
     def join(self, most):
         if not self.sources:
@@ -104,14 +103,14 @@ class Join:
             ends(f'TooManyTiles({most})')
         for _ in ('room for the root', 'metadata'):
             self.write()
-        adds = self.add(headers, pieces)
+        runs = self.add(headers, pieces)
         said = {name: last[name] for name in OF_LAST}
         said.update({name: min(h[name] for h in headers) for name in LEAST})
         said.update({name: max(h[name] for h in headers) for name in GREATEST})
-        archive, places = pm.archive(adds, text, **said)
+        archive, places = pm.archive_of_runs(runs, text, **said)
         for _ in ('leaves', 'root', 'header', 'label of directories'):
             self.write()
-        self.held = archive
+        self.held, self.is_done = archive, True
         return shown.places(places)
 
     def result(self, most):

@@ -8,6 +8,8 @@ import struct
 from models.hashes import xxh3
 
 FRONT = 16384
+# as many ids as the run of an entry may have
+LONGEST = 2 ** 32 - 1
 
 
 class ArchiveRefused(Exception):
@@ -175,18 +177,20 @@ def read_header(data):
 # Archives that are written.
 
 
+def entries_of_runs(runs, places):
+    """The entries by rising id of runs (first id, count, bytes) in their order, each of fewer than 2^32 ids."""
+    blocks = []
+    for first, count, content in runs:
+        if blocks and blocks[-1][2] == content and blocks[-1][0] + blocks[-1][1] == first:
+            blocks[-1][1] += count
+        else:
+            blocks.append([first, count, content])
+    return sorted((first + at, *places[content], min(count - at, LONGEST)) for first, count, content in blocks for at in range(0, count, LONGEST))
+
+
 def entries_of(adds, places):
-    """The entries by rising id of adds (id, bytes) in their order."""
-    entries = []
-    i = 0
-    while i < len(adds):
-        j = i + 1
-        while j < len(adds) and adds[j][1] == adds[i][1] and adds[j][0] == adds[j - 1][0] + 1:
-            j += 1
-        offset, length = places[adds[i][1]]
-        entries.append((adds[i][0], offset, length, j - i))
-        i = j
-    return sorted(entries)
+    """The same of adds (id, bytes)."""
+    return entries_of_runs([(t, 1, d) for t, d in adds], places)
 
 
 def cut(entries, size):
@@ -256,19 +260,23 @@ def whole(root, leaf_part, contents, text=b'{}', /, **fields):
 def archive(adds, metadata_text=b'{}', most=4096, **options):
     """The bytes of the archive of adds (id, bytes) with distinct ids, of at most so many entries in a leaf, and its
     places."""
-    adds = [(t, d) for t, d in adds if d]
+    return archive_of_runs([(t, 1, d) for t, d in adds], metadata_text, most, **options)
+
+
+def archive_of_runs(runs, metadata_text=b'{}', most=4096, **options):
+    """The same of runs (first id, count, bytes)."""
+    runs = [run for run in runs if run[1] and run[2]]
     places, length = {}, 0
-    for _, content in adds:
+    for _, _, content in runs:
         if content not in places:
             places[content] = (length, len(content))
             length += len(content)
     data = b''.join(places)
-    entries = entries_of(adds, places)
+    entries = entries_of_runs(runs, places)
     root, leaves, uppers = laid(entries, most)
     root, leaf_part = directory(root), b''.join(map(directory, leaves + uppers))
-    ids = [t for t, _ in adds]
-    out, h = whole(root, leaf_part, data, metadata_text, **options, **({} if leaves else {'leaf_offset': 0}), addressed=len(adds), entries=len(entries), contents=len(places),
-                   clustered=1 if all(a < b for a, b in zip(ids, ids[1:])) else 0)
+    out, h = whole(root, leaf_part, data, metadata_text, **options, **({} if leaves else {'leaf_offset': 0}), addressed=sum(count for _, count, _ in runs), entries=len(entries), contents=len(places),
+                   clustered=1 if all(a + n <= b for (a, n, _), (b, _, _) in zip(runs, runs[1:])) else 0)
     h['leaves'], h['uppers'] = len(leaves), len(uppers)
     h['length'] = len(out)
     return out, h
