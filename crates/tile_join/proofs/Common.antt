@@ -5,7 +5,7 @@ pub use Rattle.pm_reader.specs.Answers.{Gives, range_read, RangeCauses}
 pub use Rattle.pm_reader.specs.declared.state.ReaderState.{ReaderState}
 pub use Rattle.pm_writer.proofs.Canonical.{canon_is, entries_sorted}
 pub use Rattle.pm_writer.proofs.Sorted.{adds_distinct, sorted_formed, tile_found}
-pub use Rattle.pm_writer.proofs.Took.{took_as, written_fits}
+pub use Rattle.pm_writer.proofs.Took.{took_as}
 pub use Rattle.pm_writer.specs.Archive.{tile_in}
 pub use Rattle.pm_writer.specs.Causes.{AddCauses, FinishCauses}
 pub use Rattle.pm_writer.specs.Pieces.{IsHiddenOr}

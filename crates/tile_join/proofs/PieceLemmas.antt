@@ -1,5 +1,5 @@
 -- Runs whose contents are added one after another.
-use Rattle.tile_join.proofs.Common.{add_to, Adds, ap, Archive, arith, Bool, ByRoom, ComesTo, EndsBy, Err, false, Header, ids_of, IfSome, IndexEntryOverflow, InOrder, is_some, JoinError, length, List, looked, None, of_add_error, Ok, Option}
+use Rattle.tile_join.proofs.Common.{add_to, Adds, ap, Archive, arith, Bool, ByRoom, ComesTo, end_of, EndsBy, Err, false, Header, ids_of, IfSome, IndexEntryOverflow, InOrder, is_some, JoinError, length, List, looked, None, of_add_error, Ok, Option}
 use Rattle.tile_join.proofs.Common.{Options, OutOfMemory, past_end, Piece, piece_count, PieceRead, PiecesPut, PiecesRefuse, put_all, put_next, put_pieces, Puts, PutsAll, PutsFound, PutsNext, PutsPieces, refl, Result, Some, subst, sym, Took, took_as, true}
 use Rattle.tile_join.proofs.Common.{Writes, WriterState, ℕ, [], ◌+◌, ◌<◌, ◌∙◌, ◌∷◌, ◌≡◌, ◌≤◌}
 use Rattle.pm_format.specs.declared.error.PmtError.TheVariants as errors
@@ -160,3 +160,8 @@ read_as hs (Some bs) again p bytes slice same is read = let r = subst (λ o. IfS
 
 pub read_told : (hs : List Header) (told again : Option (List (List ℕ))) (p : Piece) (x : JoinError) → again ≡ told → IfSome again (λ bs. PieceRead (looked hs bs p) p (Err x)) → IfSome told (λ bs. PieceRead (looked hs bs p) p (Err x))
 read_told hs told again p x same read = subst (λ o. IfSome o (λ bs. PieceRead (looked hs bs p) p (Err x))) same read
+
+-- runs have at least one id each
+pub as_many_tiles : (n low : ℕ) (ps : List Piece) → InOrder n low ps → length ps ≤ piece_count ps
+as_many_tiles n low [] order = omega arith
+as_many_tiles n low (p ∷ ps) order = let rest = as_many_tiles n (end_of p) ps order.4 in omega (arith, order.2, rest)

@@ -23,7 +23,7 @@ fn of_writer(error: PmtError) -> ExtractError
     }
 }
 
-/// Adds contents at each id of a run. Their digest is made once.
+/// Adds contents at each id of a run. They are digested, compared and stored once.
 pub(crate) fn add_run<M: Medium>(
     writer: &mut WriterState,
     medium: &mut M,
@@ -40,15 +40,12 @@ pub(crate) fn add_run<M: Medium>(
     ensures fault { IsErrOf result extract.MediumFault
         → Rose (M.faults medium.old) (M.faults medium.new) }
     ensures still { MediumStands (M.faults medium.old) (M.faults medium.new) result }
-    ensures compared { M.reads medium.new ≤ M.reads medium.old + part.run_length }
+    ensures compared { M.reads medium.new ≤ M.reads medium.old + 1 }
     ensures kept { KeepsMedium M.told M.versions M.reads M.faults M.steady medium.old medium.new }
 {
-    let digest = xxh3_64(bytes);
-    for id in part.iter_coords() {
-        match writer.add_raw_tile_with_digest(medium, id, digest, bytes) {
-            Ok(()) => {}
-            Err(error) => return Err(of_writer(error)),
-        }
+    let (first, count) = (part.tile_id(), part.run_length());
+    match writer.add_raw_run_with_digest(medium, first, count, xxh3_64(bytes), bytes) {
+        Ok(()) => Ok(()),
+        Err(error) => Err(of_writer(error)),
     }
-    Ok(())
 }

@@ -5,7 +5,7 @@ ghost use Rattle.pm_format.specs.declared.compression.Compression.TheVariants as
 ghost use Rattle.pm_writer.specs.Adding.{WritesSome};
 ghost use Rattle.tile_join.specs.Over.{InOrder};
 ghost use Rattle.tile_join.specs.Sources.{AreOnlyRead, MediumStands, SourcesStand, all_told, total};
-ghost use Rattle.tile_join.specs.Written.{PieceCauses, PieceRead, PiecesPut, ShowsNone, WriteCauses, WritesPieces, looked, of_add_error, of_write_error, piece_count};
+ghost use Rattle.tile_join.specs.Written.{PieceCauses, PieceRead, PiecesPut, ShowsNone, WriteCauses, WritesPieces, looked, of_add_error, of_write_error};
 
 use crate::adding::add_run;
 use crate::gathering::of_reader;
@@ -93,7 +93,7 @@ fn add_pieces<B: Backend, M: Medium>(
         sources.old.items sources.new.items }
     ensures reads { total (map B.reads sources.new.items)
         ≤ total (map B.reads sources.old.items) + length pieces.now }
-    ensures compared { M.reads medium.new ≤ M.reads medium.old + piece_count pieces.now }
+    ensures compared { M.reads medium.new ≤ M.reads medium.old + length pieces.now }
     ensures medium_kept { KeepsMedium M.told M.versions M.reads M.faults M.steady
         medium.old medium.new }
 {
@@ -138,7 +138,7 @@ pub(crate) fn write_pieces<B: Backend, M: Medium>(
         sources.old.items sources.new.items }
     ensures reads { total (map B.reads sources.new.items)
         ≤ total (map B.reads sources.old.items) + length pieces.now }
-    ensures compared { M.reads medium.new ≤ M.reads medium.old + piece_count pieces.now }
+    ensures compared { M.reads medium.new ≤ M.reads medium.old + length pieces.now }
     ensures medium_kept { KeepsMedium M.told M.versions M.reads M.faults M.steady
         medium.old medium.new }
 {

@@ -1,5 +1,6 @@
-use Rattle.tile_join.proofs.Common.{all_told, ap, Err, IfSome, map, Ok, refl, ShowsNone, sym, WritesPieces}
+use Rattle.tile_join.proofs.Common.{all_told, ap, arith, Err, IfSome, length, map, Ok, refl, ShowsNone, sym, WritesPieces}
 use Rattle.tile_join.proofs.DoneLemmas.{as_planned, done_answers, done_leaves, late_answers, late_leaves, late_uncompared}
+use Rattle.tile_join.proofs.PieceLemmas.{as_many_tiles}
 use Rattle.tile_join.proofs.SourceLemmas.{all_then}
 use Rattle.tile_join.proofs.joining.join_into.Goals as goal
 
@@ -52,3 +53,13 @@ returns-clause-uncompared g c =
     late_uncompared c.args.max_tiles p.0 p.1.items p.2.items source told (g.M.Backend.told c.args.medium.now) _ _ _ _ (g.M.Backend.reads c.args.medium.now) (g.M.Backend.reads c.write_pieces.new.medium) c.in-Err-write_pieces.error (sym c.write_pieces.ensures.medium_kept.tells) c.in-Ok.ensures.planned
     c.in-Err-write_pieces.ensures.causes
     (as_planned (λ o hs s ps. WritesPieces o hs s ps told (Err c.in-Err-write_pieces.error)) source again p.0 _ p.1.items c.deref.result.now p.2.items c.deref-2.result.now refl c.deref.ensures.value c.deref-2.ensures.value (ap all_told c.plan.ensures.kept.told) c.in-Err-write_pieces.ensures.written)
+
+pub returns-in-Ok-write_pieces-clause-compared : goal.returns-in-Ok-write_pieces-clause-compared
+returns-in-Ok-write_pieces-clause-compared g c =
+    let items = c.in-Ok.planned.2.items in
+    omega (arith, c.write_pieces.ensures.compared, as_many_tiles _ 0 items c.in-Ok.ensures.ordered, c.in-Ok.ensures.few, ap length c.deref-2.ensures.value)
+
+pub returns-clause-compared : goal.returns-clause-compared
+returns-clause-compared g c =
+    let items = c.in-Ok.planned.2.items in
+    omega (arith, c.write_pieces.ensures.compared, as_many_tiles _ 0 items c.in-Ok.ensures.ordered, c.in-Ok.ensures.few, ap length c.deref-2.ensures.value)

@@ -1,4 +1,4 @@
-use Rattle.tile_join.proofs.Common.{all_told, ap, arith, header_of, length, map, medium_same, medium_then, piece_count, refl, sym, [], ◌+◌, ◌∙◌, ◌∷◌, ◌≡◌}
+use Rattle.tile_join.proofs.Common.{all_told, ap, arith, header_of, length, map, medium_same, medium_then, refl, sym, [], ◌+◌, ◌∙◌, ◌∷◌, ◌≡◌}
 use Rattle.pm_walk.proofs.ClippingLemmas.{no_items}
 use Rattle.tile_join.proofs.PieceLemmas.{first_below, put_all_pieces, put_more, put_none, put_refused, read_as, read_refused, read_told, rest_ordered}
 use Rattle.tile_join.proofs.SourceLemmas.{all_then, as_many, none_read}
@@ -41,7 +41,7 @@ loop-piece-preserved-in-Ok-add_run g c =
       (c.in-Some.piece.now.entry.tile_id + c.in-Some.piece.now.entry.run_length, rest_ordered (length c.args.sources.now.items) i.3.0 c.loop-piece.rest.now c.in-Some.piece.now c.in-Some.others.now c.in-Some.ensures.cases.0 i.3.1),
       all_then _ _ _ _ _ _ _ i.4 k,
       medium_then _ _ _ _ _ _ _ _ i.5 a.kept,
-      let n : piece_count c.loop-piece.rest.now ≡ piece_count (c.in-Some.piece.now ∷ c.in-Some.others.now) = ap piece_count c.in-Some.ensures.cases.0 in omega (arith, i.6, a.compared, n),
+      let n : length c.loop-piece.rest.now ≡ length (c.in-Some.piece.now ∷ c.in-Some.others.now) = ap length c.in-Some.ensures.cases.0 in omega (arith, i.6, a.compared, n),
       let n : length c.loop-piece.rest.now ≡ length (c.in-Some.piece.now ∷ c.in-Some.others.now) = ap length c.in-Some.ensures.cases.0 in omega (arith, i.7, c.read_piece.ensures.reads, n),
       c.in-Ok.ensures.still ∙ i.8,
       a.still ∙ i.9,
@@ -63,7 +63,7 @@ loop-piece-preserved g c =
       (c.in-Some.piece.now.entry.tile_id + c.in-Some.piece.now.entry.run_length, rest_ordered (length c.args.sources.now.items) i.3.0 c.loop-piece.rest.now c.in-Some.piece.now c.in-Some.others.now c.in-Some.ensures.cases.0 i.3.1),
       all_then _ _ _ _ _ _ _ i.4 k,
       medium_then _ _ _ _ _ _ _ _ i.5 a.kept,
-      let n : piece_count c.loop-piece.rest.now ≡ piece_count (c.in-Some.piece.now ∷ c.in-Some.others.now) = ap piece_count c.in-Some.ensures.cases.0 in omega (arith, i.6, a.compared, n),
+      let n : length c.loop-piece.rest.now ≡ length (c.in-Some.piece.now ∷ c.in-Some.others.now) = ap length c.in-Some.ensures.cases.0 in omega (arith, i.6, a.compared, n),
       let n : length c.loop-piece.rest.now ≡ length (c.in-Some.piece.now ∷ c.in-Some.others.now) = ap length c.in-Some.ensures.cases.0 in omega (arith, i.7, c.read_piece.ensures.reads, n),
       c.in-Ok.ensures.still ∙ i.8,
       a.still ∙ i.9,
