@@ -6,3 +6,4 @@ pub mod Reading
 pub mod Storing
 pub mod Import
 pub mod PutOver
+pub mod Walked

@@ -1,7 +1,8 @@
 // The tiles of an archive.
-ghost use Rattle.std.specs.Prelude.{◌≡◌, ◌≤◌, ◌+◌, IfErr, IfOk, IfSome, OnOk};
+ghost use Rattle.std.specs.Prelude.{◌≡◌, ◌≤◌, ◌+◌, [], Err, IfErr, IfOk, IfSome, OnOk};
 ghost use Rattle.tile_import.specs.Common.{all_walked, AllOnBoard, coord_of, header_of, IsOpen, len, MAX_TILE_ID, ReadsOnly, root_of};
 ghost use Rattle.tile_import.specs.Import.{ReadCauses, reads_at_most};
+ghost use Rattle.pm_walk.specs.Gathered.{HoldsGiven};
 ghost use Rattle.tile_import.specs.Reading.{IsTileId, tiles_of};
 ghost use Rattle.tile_import.specs.Refusals.{Reads, of_read_error, of_walk_error};
 
@@ -10,7 +11,7 @@ use crate::tiles::{no_tiles, settle_tiles};
 use mb_loaded::Loaded;
 use pm_format::{Backend, PmtError};
 use pm_reader::ReaderState;
-use pm_walk::{WalkError, take_entries};
+use pm_walk::{TakesEntries, WalkError, take_entries};
 use std::alloc::Global;
 use tile_ids::{TileCoord, TileId};
 
@@ -24,8 +25,8 @@ pub fn of_reader(error: PmtError) -> ImportError
     }
 }
 
-// The coordinate of an id.
-fn coord_at(id: u64) -> TileCoord
+/// The coordinate of an id, at most `MAX_TILE_ID`.
+pub fn coord_at(id: u64) -> TileCoord
     requires { id ≤ MAX_TILE_ID }
     ensures { result ≡ coord_of id }
 {
@@ -48,6 +49,33 @@ fn of_walk(error: WalkError, max_tiles: u64) -> ImportError
     }
 }
 
+/// Gives the tile entries of an archive that is open, with their contents, to what takes them. The first test that an
+/// entry fails is answered, as `read_archive` says.
+pub(crate) fn take_opened<B: Backend, T: TakesEntries + Drop>(
+    reader: &ReaderState,
+    backend: &mut B,
+    taker: T,
+    max_tiles: u64,
+) -> Result<T, ImportError>
+    requires open { IsOpen (B.told backend.old) reader.now }
+    requires begun { T.holds taker [] [] }
+    ensures given { IfOk result (HoldsGiven T.holds (B.told backend.old) (header_of reader.now)
+        (root_of reader.now) max_tiles) }
+    ensures refused { IfSome (B.told backend.old)
+        (λ b. IfErr result (λ e. Reads max_tiles b (Err e))) }
+    ensures causes { IfErr result (ReadCauses max_tiles (B.faults backend.old)
+        (B.faults backend.new)) }
+    ensures kept { ReadsOnly B.told B.versions B.faults B.steady backend.old backend.new }
+    ensures still { OnOk result (B.faults backend.new ≡ B.faults backend.old) }
+    ensures reads { IfSome (B.told backend.old) (λ b. B.reads backend.new ≤ B.reads backend.old
+        + (all_walked b (header_of reader.now, root_of reader.now)).reads) }
+{
+    match take_entries(reader, backend, taker, max_tiles) {
+        Ok(taker) => Ok(taker),
+        Err(error) => Err(of_walk(error, max_tiles)),
+    }
+}
+
 // The tiles of an archive that is open.
 fn read_opened<B: Backend>(
     alloc: Global,
@@ -66,9 +94,9 @@ fn read_opened<B: Backend>(
     ensures reads { IfSome (B.told backend.old) (λ b. B.reads backend.new ≤ B.reads backend.old
         + (all_walked b (header_of reader.now, root_of reader.now)).reads) }
 {
-    let made = match take_entries(reader, backend, no_tiles(alloc), max_tiles) {
+    let made = match take_opened(reader, backend, no_tiles(alloc), max_tiles) {
         Ok(made) => made,
-        Err(error) => return Err(of_walk(error, max_tiles)),
+        Err(error) => return Err(error),
     };
     match settle_tiles(made) {
         Ok(tiles) => Ok(tiles),

@@ -1,14 +1,8 @@
-use Rattle.tile_import.proofs.Common.{AreOnBoard, arith, empty, header_of, len, len-empty, List, Option, place_cmp, ReadCauses, root_of, subst, sym, tile_count, TileSet, ℕ, ◌∙◌, ◌≤◌}
+use Rattle.tile_import.proofs.Common.{AreOnBoard, arith, empty, header_of, len, len-empty, List, Option, place_cmp, root_of, subst, sym, tile_count, TileSet, ℕ, ◌∙◌, ◌≤◌}
 use Rattle.tile_import.proofs.EntryLemmas.{contents_few, contents_on_board}
-use Rattle.tile_import.proofs.RefusalLemmas.{stop_causes, tiles_taken, want_read}
+use Rattle.tile_import.proofs.RefusalLemmas.{tiles_taken, want_read}
 use Rattle.tile_import.proofs.TilesLemmas.{none_on_board}
 use Rattle.tile_import.proofs.reading.read_opened.Goals as goal
-
-pub returns-in-Err-clause-causes : goal.returns-in-Err-clause-causes
-returns-in-Err-clause-causes g c =
-    let before = g.B.Backend.faults c.args.backend.now in
-    let now = g.B.Backend.faults c.take_entries.new.backend in
-    subst (ReadCauses c.args.max_tiles before now) (sym c.of_walk.ensures) (stop_causes c.args.max_tiles before now c.in-Err.error c.in-Err.ensures.causes)
 
 pub returns-in-Ok-settle_tiles-clause-answer : goal.returns-in-Ok-settle_tiles-clause-answer
 returns-in-Ok-settle_tiles-clause-answer g c =
