@@ -34,7 +34,7 @@ class Made(Set):
     """The kept store that has nothing, until a set is made in it."""
 
     def __init__(self, rows):
-        self.rows, self.layout, self.tables, self.asked = rows, 'flat', {'metadata': [], 'tiles': []}, 0
+        self.rows, self.layout, self.tables, self.asked, self.is_new = rows, 'flat', {'metadata': [], 'tiles': []}, 0, True
         rows.row('set none')
 
 
@@ -66,9 +66,17 @@ def made(held, data, most):
 
 
 def run(rows, held, data, most=100):
+    """A set that is made in one commit; where the store is new first another one in several, which is the same."""
     hold(rows, data)
+    if isinstance(held, Made) and held.is_new:
+        held.is_new = False
+        other = Made(rows)
+        answer = made(other, data, most)
+        rows.row(f'made streamed bytes {most}', answer, status(answer))
+        other.say()
+        rows.row('set none')
     answer = made(held, data, most)
-    rows.row(f'made bytes {most}', answer, status(answer))
+    rows.row(f'made whole bytes {most}', answer, status(answer))
     held.say()
     return answer
 
@@ -173,7 +181,7 @@ def sets_before(rows):
         assert run(rows, held, data) == 'Ok(2)'
         assert run(rows, held, archive([(3, b'c')], '{"name":"newer"}')) == 'Ok(1)'
     held = Set(rows, 'dedup-id', [])
-    rows.row('made bytes 9', 'Err(Store(UnsupportedCopyOperation))', 1)
+    rows.row('made whole bytes 9', 'Err(Store(UnsupportedCopyOperation))', 1)
     held.say()
 
 
@@ -194,7 +202,7 @@ def without_views(rows):
     hold(rows, data)
     for names in (['metadata'], ['tiles'], ['images', 'metadata']):
         rows.row(f"set tables {len(names)} {' '.join(names)} 0")
-        rows.row('made bytes 9', 'Err(Store(InvalidDataFormat))', 1)
+        rows.row('made whole bytes 9', 'Err(Store(InvalidDataFormat))', 1)
         say_names(rows, *names)
 
 
@@ -204,12 +212,74 @@ def many(rows):
     hold(rows, data)
     held = Made(rows)
     assert made(held, data, 9999) == 'Ok(4097)'
-    rows.row('made bytes 9999', 'Ok(4097)', 0)
+    rows.row('made whole bytes 9999', 'Ok(4097)', 0)
     back(rows, data)
     held = Set(rows, 'normalized', [])
     assert imported(held, data, 9999) == 'Ok(4097)'
     rows.row('import bytes 9999', 'Ok(4097)')
     export(rows, pm.archive([(t, t.to_bytes(2, 'big')) for t in range(3, 4100)])[0])
+
+
+def commits(adds):
+    """How many tiles each commit of tiles has: 1,000 at most, and 8 MiB of contents, or one tile of more."""
+    counts, room = [0], 8 << 20
+    for _, data in adds:
+        if counts[-1] == 1000 or len(data) > room and counts[-1]:
+            counts, room = counts + [0], 8 << 20
+        counts, room = counts[:-1] + [counts[-1] + 1], max(room - len(data), 0)
+    return counts
+
+
+def streamed(rows):
+    """Sets that are made in several commits: each of these fails in turn, and each read behind the first of them. There
+    stand the tiles of the commits before, and no name."""
+    large = b'x' * 9000
+    several = [[(t, t.to_bytes(2, 'big')) for t in range(3, 3 + count)] for count in (0, 1, 999, 1000, 1001, 2000, 2001)]
+    for adds in (*several, [(t, large) for t in range(85, 2085)], [(t, b'a' if t % 7 else large) for t in range(21, 5000)]):
+        data = archive(adds, '{"name":"town"}')
+        hold(rows, data)
+        counts, first = commits(adds), 2 + counted(data)
+        entries = [data for n, (t, data) in enumerate(adds) if not n or adds[n - 1] != (t - 1, data)]
+        Made(rows)
+        rows.row(f'made streamed medium {len(adds)} 0', f'Ok({len(adds)})', 0, first + len(entries))
+        back(rows, data)
+        done, told = 0, {}
+        for call, count in enumerate((*counts, 0), 3):
+            put = min(done + count + (call < 2 + len(counts)), len(adds))
+            reads = first + sum(not n or adds[n - 1] != (t - 1, data) for n, (t, data) in enumerate(adds[:put]))
+            held = Made(rows)
+            held.fail(call)
+            rows.row(f'made streamed medium {len(adds)} 0', 'Err(Store(StoreFault))', 6, reads)
+            rows.row('set fail')
+            export(rows, archive(adds[:done], '{}'))
+            done += count
+    # whether anything is described, and the tables
+    hold(rows, DESCRIBED)
+    for call, reads in ((1, 2), (2, 2 + counted(DESCRIBED))):
+        held = Made(rows)
+        held.fail(call)
+        rows.row('made streamed medium 9 0', 'Err(Store(StoreFault))', 6, reads)
+        rows.row('set fail')
+        say_names(rows)
+    # each read
+    adds = several[-1]
+    data = archive(adds)
+    hold(rows, data)
+    first = 2 + counted(data)
+    for call in (*range(1, 6), first, first + 1, first + 1000, first + 1001, first + 1002, first + 2001):
+        Made(rows)
+        rows.row(f'made streamed medium 2001 {call}', 'Err(Archive(Reading(Fault)))', 6, call)
+        if call > first:
+            export(rows, archive(adds[:max(call - first - 2, 0) // 1000 * 1000]))
+        else:
+            say_names(rows)
+    # in a store that describes anything all is put in one commit
+    for layout in ('flat', 'flat-with-hash', 'normalized', 'cache', 'dedup-id'):
+        held = Set(rows, layout, named(('name', 'old'), ('legend', 'old')))
+        hold(rows, DESCRIBED)
+        answer = made(held, DESCRIBED, 9)
+        rows.row('made streamed bytes 9', answer, status(answer))
+        held.say()
 
 
 def faults(rows):
@@ -220,16 +290,16 @@ def faults(rows):
     reads = 2 + counted(data)
     for call in range(1, reads + 1):
         held = Made(rows)
-        rows.row(f'made medium 9 {call}', 'Err(Archive(Reading(Fault)))', 6, call)
+        rows.row(f'made whole medium 9 {call}', 'Err(Archive(Reading(Fault)))', 6, call)
         held.say()
     held = Made(rows)
-    rows.row(f'made medium 9 {reads + 1}', made(held, data, 9), 0, reads)
+    rows.row(f'made whole medium 9 {reads + 1}', made(held, data, 9), 0, reads)
     held.say()
     # whether anything is described, the tables, and the commit
     for call in (1, 2, 3):
         held = Made(rows)
         held.fail(call)
-        rows.row('made medium 9 0', 'Err(Store(StoreFault))', 6, 2 if call == 1 else reads)
+        rows.row('made whole medium 9 0', 'Err(Store(StoreFault))', 6, 2 if call == 1 else reads)
         rows.row('set fail')
         held.say()
         say_names(rows, *(['metadata', 'tiles'] if call == 3 else []))
@@ -240,7 +310,7 @@ def faults(rows):
         for call in range(1, 1 + loads + 1 + 1):
             held = Set(rows, layout, pushes)
             held.fail(call)
-            rows.row('made medium 9 0', 'Err(Store(StoreFault))', 6, reads if call > 1 + loads else 2)
+            rows.row('made whole medium 9 0', 'Err(Store(StoreFault))', 6, reads if call > 1 + loads else 2)
             rows.row('set fail')
             held.say()
 
@@ -248,7 +318,7 @@ def faults(rows):
 def limits(rows):
     for words, number in (('', '10000000'), (' 0', '0'), (' 1', '1'), (f' {2 ** 64 - 1}', str(2 ** 64 - 1)), (f' {2 ** 64}', None), (' 01', None), (' -1', None), (' +1', None), (' x', None), (' 1 2', None)):
         rows.row('made limit' + words, shown.option(number))
-    for call in ('made', 'made bytes', 'made bytes x', 'made medium 1', 'made other'):
+    for call in ('made', 'made whole', 'made whole bytes', 'made whole bytes x', 'made streamed medium 1', 'made streamed', 'made streamed back', 'made other'):
         rows.refused(call)
 
 
@@ -272,5 +342,5 @@ def round_trips(rows):
 
 
 def write(rows):
-    for cases in (types, texts, extents, refused, sets_before, without_views, many, faults, limits, round_trips):
+    for cases in (types, texts, extents, refused, sets_before, without_views, many, streamed, faults, limits, round_trips):
         cases(rows)

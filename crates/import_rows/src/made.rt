@@ -4,24 +4,40 @@ use crate::exports::say_archive;
 use crate::imports::medium;
 use base_values::TextVal;
 use mb_store::{MemStore, TileStore};
-use pm_format::MemMedium;
+use pm_format::{Backend, MemMedium};
 use rows_shared::{Words, number, said, say};
 use set_conversion::OptionsOfSet;
-use set_import::{import_as_said, import_status, limit_of};
+use set_import::{import_as_said, import_status, import_streamed, limit_of};
 use std::alloc::Global;
 use tile_bridge::convert;
+use tile_import::ImportError;
+
+// In one commit, or in several.
+fn put<B: Backend, S: TileStore>(
+    alloc: Global,
+    streams: bool,
+    backend: &mut B,
+    store: &mut S,
+    max_tiles: u64,
+) -> Result<u64, ImportError> {
+    if streams {
+        return import_streamed(alloc, backend, store, max_tiles);
+    }
+    import_as_said(alloc, backend, store, max_tiles)
+}
 
 // From a backend of bytes, whose calls don't fail; and the status of the answer.
 fn of_bytes<S: TileStore>(
     alloc: Global,
     out: &mut String,
+    streams: bool,
     held: &[u8],
     store: &mut S,
     words: &mut Words,
 ) -> Option<()> {
     let max_tiles = number::<u64>(words)?;
     let mut backend = backend_of(alloc, held)?;
-    let answer = import_as_said(alloc, &mut backend, store, max_tiles);
+    let answer = put(alloc, streams, &mut backend, store, max_tiles);
     let status = import_status(&answer);
     said(out, answer)?;
     say(out, &status)
@@ -31,13 +47,14 @@ fn of_bytes<S: TileStore>(
 fn of_medium<S: TileStore>(
     alloc: Global,
     out: &mut String,
+    streams: bool,
     held: &[u8],
     store: &mut S,
     words: &mut Words,
 ) -> Option<()> {
     let max_tiles = number::<u64>(words)?;
     let mut backend = medium(alloc, held, number(words)?)?;
-    let answer = import_as_said(alloc, &mut backend, store, max_tiles);
+    let answer = put(alloc, streams, &mut backend, store, max_tiles);
     let status = import_status(&answer);
     said(out, answer)?;
     say(out, &status)?;
@@ -65,6 +82,22 @@ fn limit(alloc: Global, out: &mut String, words: &mut Words) -> Option<()> {
     said(out, limit_of(list.as_slice()))
 }
 
+// A set that is made in one commit, or in several.
+fn made<S: TileStore>(
+    alloc: Global,
+    out: &mut String,
+    streams: bool,
+    held: &[u8],
+    store: &mut S,
+    words: &mut Words,
+) -> Option<()> {
+    match words.next()? {
+        "bytes" => of_bytes(alloc, out, streams, held, store, words),
+        "medium" => of_medium(alloc, out, streams, held, store, words),
+        _ => None,
+    }
+}
+
 /// A set that is made, its archive, or a limit.
 pub fn answer<S: TileStore>(
     alloc: Global,
@@ -74,8 +107,8 @@ pub fn answer<S: TileStore>(
     words: &mut Words,
 ) -> Option<()> {
     match words.next()? {
-        "bytes" => of_bytes(alloc, out, held, store, words),
-        "medium" => of_medium(alloc, out, held, store, words),
+        "whole" => made(alloc, out, false, held, store, words),
+        "streamed" => made(alloc, out, true, held, store, words),
         "back" => back(alloc, out, store),
         "limit" => limit(alloc, out, words),
         _ => None,

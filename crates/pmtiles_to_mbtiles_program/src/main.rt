@@ -10,7 +10,7 @@ use program_words::{
     remove_made, say_beside_fault, say_opening, say_out_of_memory, say_unwritten, source_file,
     take_beside, tell_source_fault, words_to_run,
 };
-use set_import::{import_as_said, import_status, limit_of};
+use set_import::{import_status, import_streamed, limit_of};
 use sqlite::{Connection, Error, ErrorCode};
 use std::fs::File;
 use std::io::{Seek, SeekFrom, Write};
@@ -25,13 +25,15 @@ usage: pmtiles-to-mbtiles IN.pmtiles OUT.mbtiles [MAX_TILES]
 pmtiles-to-mbtiles IN.pmtiles OUT.mbtiles [MAX_TILES]
                 writes to the new file OUT.mbtiles the flat set of the tiles
                 of the archive IN.pmtiles, of which there are MAX_TILES at
-                most, 10000000 where it isn't said. All tiles are in memory
-                while the set is made. Its metadata is what the archive says
-                of itself: format, bounds, center, minzoom and maxzoom by its
-                header, texts of its metadata under their names, and all
-                else of it under json. Tiles are copied as they are, be they
-                compressed or not. The file IN.pmtiles isn't changed. Nothing
-                is printed where both files can be opened. OUT.mbtiles is
+                most, 10000000 where it isn't said. They are written some at
+                a time: in memory are the directories' entries of the archive
+                and the tiles of one step, and not all tiles. Its metadata
+                is what the archive says of itself: format, bounds, center,
+                minzoom and maxzoom by its header, texts of its metadata
+                under their names, and all else of it under json. Tiles are
+                copied as they are, be they compressed or not. The file
+                IN.pmtiles isn't changed. Nothing is printed where both
+                files can be opened. OUT.mbtiles is
                 made as OUT.mbtiles.new, beside which OUT.mbtiles.new-wal
                 stands meanwhile, and put in place when it is whole and
                 synced. One that is there is refused. A run that ends with
@@ -88,7 +90,7 @@ fn fill(
         Err(error) => return Err(of_database(error)),
     };
     let mut store = SqliteStore::adopt(rt.alloc(), connection, MbtType::Flat);
-    let count = import_as_said(rt.alloc(), source, &mut store, limit)?;
+    let count = import_streamed(rt.alloc(), source, &mut store, limit)?;
     if let Err(error) = store.into_connection().close() {
         return Err(of_database(error));
     }

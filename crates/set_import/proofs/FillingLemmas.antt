@@ -43,6 +43,15 @@ moved_begun tells now old new r still same b = record {
   answers = b.answers;
 }
 
+pub moved_answer : (most : ℕ) (told : Option (List ℕ)) (tells now : Bool) (old new : Tables) (r : Result ℕ ImportError) → now ≡ tells → new ≡ old → IsAnswered most told now (started new) r → IsAnswered most told tells (started old) r
+moved_answer most told tells now old new r still same a = record {
+  tables = a.tables;
+  is_store = λ t. a.is_store (still ∙ t) ∙ ap started same;
+  found = a.found;
+  is_archive = a.is_archive;
+  answers = a.answers;
+}
+
 pub moved_new : (is_new : Bool) (old new : Tables) → new ≡ old → ((is_new ≡ true) ↔ (old.descriptions ≡ [])) → ((is_new ≡ true) ↔ (new.descriptions ≡ []))
 moved_new is_new old new same is = subst (λ (t : Tables). (is_new ≡ true) ↔ (t.descriptions ≡ [])) (sym same) is
 
@@ -67,6 +76,10 @@ store_causes most before now old new e fault = tt
 -- the same where other calls of the store came before
 pub later_causes : {T : Type 0} (most before now f m new : ℕ) (e : MbtError) → f ≤ m → (IsErrOf {T = T} (Err e) stores.StoreFault → Rose m new) → ImportCauses most before now f new (Err (of_store_error e))
 later_causes {T} most before now f m new e le fault = store_causes {T = T} most before now f new e (λ is. let rose = fault is in omega (arith, le, rose))
+
+pub later_answer : (most before now f m new : ℕ) (r : Result ℕ ImportError) → f ≤ m → ImportCauses most before now m new r → ImportCauses most before now f new r
+later_answer most before now f m new (Err (Store stores.StoreFault)) le c = omega (arith, le, c)
+later_answer most before now f m new r le c = c
 
 -- a set with tiles and names over it is loaded from tables still, and its commit fills them
 module _ (told : Option (List ℕ)) (t : TileJson) (made new : Tables) (n : ℕ) (base next : Held) (begun : IsBase made base) (filled : IsFilledSet told t base next n) where

@@ -43,7 +43,7 @@ made_sound t sound none = record {
   counts = sound.counts;
 }
 
-made_empty : (t : Tables) → IsSound t → t.descriptions ≡ [] → AreEmpty Flat (flat_made t)
+pub made_empty : (t : Tables) → IsSound t → t.descriptions ≡ [] → AreEmpty Flat (flat_made t)
 made_empty t sound none = record {
   is_layout = ap (λ ds. layout_of (with_tables ds (set_tables Flat))) none;
   whole = ap (λ ds. patch_type_of (with_tables ds (set_tables Flat))) none;
@@ -60,17 +60,17 @@ none_named = record {
   named = ap (λ (o : Option (Option (List ℕ))). algorithm_by (option_and_then (λ (value : Option (List ℕ)). value) o)) (get-empty {X = Option (List ℕ)} (slice_cmp nat_cmp) (codes "hash_algorithm"));
 }
 
-made_loads : (t : Tables) → IsSound t → t.descriptions ≡ [] → state_of (flat_made t) ≡ Ok (empty_state Flat Md5)
+pub made_loads : (t : Tables) → IsSound t → t.descriptions ≡ [] → state_of (flat_made t) ≡ Ok (empty_state Flat Md5)
 made_loads t sound none = state_again (flat_made t) (empty_state Flat Md5) (made_sound t sound none) (from_empty (flat_made t) Flat Md5 (made_empty t sound none)) none_named
 
 -- tiles that are put where there are none
-abbrev At : Type 0
+abbrev pub At : Type 0
 At = Option (Option (List ℕ))
 
-abbrev put_at : At → At
+abbrev pub put_at : At → At
 put_at o = patched_at (λ bytes. Some (Some bytes)) o None
 
-alone : (old tiles : TileSet) (p : Place) → old ≡ empty → get (patched old tiles) p ≡ put_at (get tiles p)
+pub alone : (old tiles : TileSet) (p : Place) → old ≡ empty → get (patched old tiles) p ≡ put_at (get tiles p)
 alone old tiles p none = get-patched old tiles p ∙ ap (patched_at (λ bytes. Some (Some bytes)) (get tiles p)) (ap (λ (m : TileSet). get m p) none ∙ get-empty place_cmp p)
 
 given : (o : Option (List ℕ)) → put_at (option_map (λ bytes. Some bytes) o) ≡ option_map (λ bytes. Some bytes) o

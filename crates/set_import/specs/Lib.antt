@@ -4,3 +4,5 @@ pub mod NewSet
 pub mod Said
 pub mod Status
 pub mod Words
+pub mod Streaming
+pub mod Batches

@@ -32,8 +32,8 @@ pub(crate) fn base_of<S: TileStore>(alloc: Global, store: &mut S, is_new: bool) 
     load_base(alloc, store)
 }
 
-// The changes of a set, which is let go.
-fn changes_of(alloc: Global, set: Loaded) -> Result<Changes, OutOfMemory>
+/// The changes of a set, which is let go.
+pub(crate) fn changes_of(alloc: Global, set: Loaded) -> Result<Changes, OutOfMemory>
     ensures { IfOk result (λ changes. AreChangesOf set changes) }
 {
     set.into_changes(alloc)

@@ -41,8 +41,8 @@ fn no_entries(alloc: Global) -> EntryList
     }
 }
 
-/// Opens an archive and walks all of it, as `import` does, and gives what reads it with its tile entries of at least one
-/// byte, in order of their ids: offsets count from the data part, lengths are bytes. All tests of an import into an
+/// Opens an archive and walks all of it, as `import` does, and gives what reads it with its tile entries of at least
+/// one byte, in order of their ids: offsets count from the data part, lengths are bytes. All tests of an import into an
 /// empty flat set are made; the contents of each entry are read, which is the test of their range, and let go.
 ///
 /// The refusals of the archive are those of `import`, in its order. The archive is read once to open it, and once for

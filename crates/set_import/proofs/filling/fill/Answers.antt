@@ -1,21 +1,10 @@
-use Rattle.set_import.proofs.Common.{ap, arith, Err, ImportCauses, inl, is_unwritten, IsAnswered, IsBase, IsLeft, IsLoadedFrom, load_answered, loaded_state, MakesChanges, Ok, put_answered, put_causes}
-use Rattle.set_import.proofs.Common.{started, subst, sym, Tables, ◌∙◌}
-use Rattle.set_import.proofs.FillingLemmas.{are_filled, are_left, either_free, free_answered, later_causes, moved_begun, moved_new, not_unwritten}
+use Rattle.set_import.proofs.Common.{arith, Err, ImportCauses, inl, IsAnswered, IsFilled, IsLeft, Ok, started, subst, sym, Tables, ◌∙◌}
+use Rattle.set_import.proofs.FillingLemmas.{either_free, free_answered, later_answer, later_causes, moved_answer, moved_new}
 use Rattle.set_import.proofs.filling.fill.Goals as goal
 
-pub base_of-requires : goal.base_of-requires
-base_of-requires g c told =
+pub fill_in-requires-clause-new : goal.fill_in-requires-clause-new
+fill_in-requires-clause-new g c told =
     moved_new c.in-Ok.is_new (g.S.TileStore.told c.args.store.now) (g.S.TileStore.told c.is_empty_database.new.store) c.is_empty_database.ensures.kept.told (c.in-Ok.ensures.answer (sym c.is_empty_database.ensures.kept.tells ∙ told))
-
-pub store_set-requires-clause-new : goal.store_set-requires-clause-new
-store_set-requires-clause-new g c told =
-    moved_new c.in-Ok.is_new (g.S.TileStore.told c.args.store.now) (g.S.TileStore.told c.base_of.new.store) (c.base_of.ensures.kept.told ∙ c.is_empty_database.ensures.kept.told)
-    (c.in-Ok.ensures.answer (sym (c.base_of.ensures.kept.tells ∙ c.is_empty_database.ensures.kept.tells) ∙ told))
-
-pub store_set-requires-clause-from : goal.store_set-requires-clause-from
-store_set-requires-clause-from g c told =
-    c.in-Ok-filled_set.ensures.loaded (started (g.S.TileStore.told c.base_of.new.store))
-    (subst (λ (t : Tables). IsLoadedFrom (started t) c.in-Ok-base_of.base) (sym c.base_of.ensures.kept.told) (c.in-Ok-base_of.ensures.base (sym c.base_of.ensures.kept.tells ∙ told)).loaded)
 
 pub returns-in-Err-clause-answer : goal.returns-in-Err-clause-answer
 returns-in-Err-clause-answer g c =
@@ -34,91 +23,27 @@ returns-in-Err-clause-causes g c =
 pub returns-in-Err-clause-left : goal.returns-in-Err-clause-left
 returns-in-Err-clause-left g c told = inl c.is_empty_database.ensures.kept.told
 
-pub returns-in-Err-base_of-clause-answer : goal.returns-in-Err-base_of-clause-answer
-returns-in-Err-base_of-clause-answer g c =
-    let told = g.B.Backend.told c.args.backend.now in
-    let tells = g.S.TileStore.tells c.args.store.now in
-    let store = g.S.TileStore.told c.args.store.now in
-    subst (λ x. IsAnswered c.args.max_tiles told tells (started store) (Err x)) (sym c.of_store-in-Err-base_of.ensures)
-    (load_answered c.args.max_tiles told tells (started store) c.in-Err-base_of.error
-    (moved_begun tells (g.S.TileStore.tells c.is_empty_database.new.store) store (g.S.TileStore.told c.is_empty_database.new.store) (Err c.in-Err-base_of.error) c.is_empty_database.ensures.kept.tells c.is_empty_database.ensures.kept.told c.in-Err-base_of.ensures.answer))
-
-pub returns-in-Err-base_of-clause-causes : goal.returns-in-Err-base_of-clause-causes
-returns-in-Err-base_of-clause-causes g c =
-    let before = g.B.Backend.faults c.args.backend.now in
-    let old = g.S.TileStore.faults c.args.store.now in
-    let mid = g.S.TileStore.faults c.is_empty_database.new.store in
-    let new = g.S.TileStore.faults c.base_of.new.store in
-    subst (λ x. ImportCauses c.args.max_tiles before before old new (Err x)) (sym c.of_store-in-Err-base_of.ensures) (later_causes c.args.max_tiles before before old mid new c.in-Err-base_of.error c.is_empty_database.ensures.kept.faults c.in-Err-base_of.ensures.fault.rose)
-
-pub returns-in-Err-base_of-clause-left : goal.returns-in-Err-base_of-clause-left
-returns-in-Err-base_of-clause-left g c told = inl (c.base_of.ensures.kept.told ∙ c.is_empty_database.ensures.kept.told)
-
-pub returns-in-Err-filled_set-clause-answer : goal.returns-in-Err-filled_set-clause-answer
-returns-in-Err-filled_set-clause-answer g c =
-    let tells = g.S.TileStore.tells c.args.store.now in
-    let store = g.S.TileStore.told c.args.store.now in
-    put_answered c.args.max_tiles (g.B.Backend.told c.args.backend.now) tells (started store) c.in-Ok-base_of.base.state (Err c.in-Err-filled_set.error)
-    (moved_begun tells (g.S.TileStore.tells c.is_empty_database.new.store) store (g.S.TileStore.told c.is_empty_database.new.store) (Ok c.in-Ok-base_of.base.state) c.is_empty_database.ensures.kept.tells c.is_empty_database.ensures.kept.told c.in-Ok-base_of.ensures.answer)
-    c.in-Err-filled_set.ensures.answer
-
-pub returns-in-Err-filled_set-clause-causes : goal.returns-in-Err-filled_set-clause-causes
-returns-in-Err-filled_set-clause-causes g c =
-    put_causes c.args.max_tiles (g.B.Backend.faults c.args.backend.now) (g.B.Backend.faults c.filled_set.new.backend) (g.S.TileStore.faults c.args.store.now) (g.S.TileStore.faults c.base_of.new.store) (Err c.in-Err-filled_set.error) c.in-Err-filled_set.ensures.causes
-
-pub returns-in-Err-filled_set-clause-left : goal.returns-in-Err-filled_set-clause-left
-returns-in-Err-filled_set-clause-left g c told = inl (c.base_of.ensures.kept.told ∙ c.is_empty_database.ensures.kept.told)
-
-pub returns-in-Ok-store_set-clause-answer : goal.returns-in-Ok-store_set-clause-answer
-returns-in-Ok-store_set-clause-answer g c =
-    let tells = g.S.TileStore.tells c.args.store.now in
-    let store = g.S.TileStore.told c.args.store.now in
-    put_answered c.args.max_tiles (g.B.Backend.told c.args.backend.now) tells (started store) c.in-Ok-base_of.base.state (Ok c.in-Ok-filled_set.filled.1)
-    (moved_begun tells (g.S.TileStore.tells c.is_empty_database.new.store) store (g.S.TileStore.told c.is_empty_database.new.store) (Ok c.in-Ok-base_of.base.state) c.is_empty_database.ensures.kept.tells c.is_empty_database.ensures.kept.told c.in-Ok-base_of.ensures.answer)
-    c.in-Ok-filled_set.ensures.answer
-
-pub returns-in-Ok-store_set-clause-filled : goal.returns-in-Ok-store_set-clause-filled
-returns-in-Ok-store_set-clause-filled g c told =
-    let tells = g.S.TileStore.tells c.args.store.now in
-    let store = g.S.TileStore.told c.args.store.now in
-    let new = g.S.TileStore.told c.store_set.new.store in
+pub returns-in-Ok-fill_in-clause-answer : goal.returns-in-Ok-fill_in-clause-answer
+returns-in-Ok-fill_in-clause-answer g c =
     let mid = c.is_empty_database.ensures.kept in
-    let late = c.base_of.ensures.kept in
-    are_filled (g.B.Backend.told c.args.backend.now) c.args.document.now (started store) new c.in-Ok-filled_set.filled.1 c.in-Ok-base_of.base c.in-Ok-filled_set.filled.0
-    (subst (λ (t : Tables). IsBase (started t) c.in-Ok-base_of.base) mid.told (c.in-Ok-base_of.ensures.base (mid.tells ∙ told)))
-    c.in-Ok-filled_set.ensures.filled
-    (loaded_state tells (started store) c.in-Ok-base_of.base.state
-    (moved_begun tells (g.S.TileStore.tells c.is_empty_database.new.store) store (g.S.TileStore.told c.is_empty_database.new.store) (Ok c.in-Ok-base_of.base.state) mid.tells mid.told c.in-Ok-base_of.ensures.answer) told)
-    (g.met.S.TileStore.sound c.store_set.new.store (c.store_set.ensures.kept.tells ∙ (late.tells ∙ (mid.tells ∙ told))))
-    (subst (λ (t : Tables). MakesChanges c.in-Ok-filled_set.filled.0 (started t) new) (late.told ∙ mid.told) (c.in-Ok-store_set.ensures.committed (late.tells ∙ (mid.tells ∙ told))))
+    moved_answer c.args.max_tiles (g.B.Backend.told c.args.backend.now) (g.S.TileStore.tells c.args.store.now) (g.S.TileStore.tells c.is_empty_database.new.store) (g.S.TileStore.told c.args.store.now) (g.S.TileStore.told c.is_empty_database.new.store) (Ok c.in-Ok-fill_in.count) mid.tells mid.told c.in-Ok-fill_in.ensures.answer
 
-pub returns-in-Err-store_set-clause-answer : goal.returns-in-Err-store_set-clause-answer
-returns-in-Err-store_set-clause-answer g c =
-    let told = g.B.Backend.told c.args.backend.now in
-    let tells = g.S.TileStore.tells c.args.store.now in
-    let made = started (g.S.TileStore.told c.args.store.now) in
-    subst (λ x. IsAnswered c.args.max_tiles told tells made (Err x)) (sym c.of_store-in-Err-store_set.ensures) (free_answered c.args.max_tiles told tells made c.in-Err-store_set.error c.in-Err-store_set.ensures.free)
-
-pub returns-in-Err-store_set-clause-causes : goal.returns-in-Err-store_set-clause-causes
-returns-in-Err-store_set-clause-causes g c =
-    let before = g.B.Backend.faults c.args.backend.now in
-    let now = g.B.Backend.faults c.filled_set.new.backend in
-    let old = g.S.TileStore.faults c.args.store.now in
-    let mid = g.S.TileStore.faults c.base_of.new.store in
-    let new = g.S.TileStore.faults c.store_set.new.store in
-    let first = c.is_empty_database.ensures.kept.faults in
-    let next = c.base_of.ensures.kept.faults in
-    subst (λ x. ImportCauses c.args.max_tiles before now old new (Err x)) (sym c.of_store-in-Err-store_set.ensures) (later_causes c.args.max_tiles before now old mid new c.in-Err-store_set.error (omega (arith, first, next)) c.in-Err-store_set.ensures.fault.rose)
-
-pub returns-in-Err-store_set-clause-refused : goal.returns-in-Err-store_set-clause-refused
-returns-in-Err-store_set-clause-refused g c owed = not_unwritten c.in-Err-store_set.error c.in-Err-store_set.ensures.free (sym (ap is_unwritten c.of_store-in-Err-store_set.ensures) ∙ owed)
-
-pub returns-in-Err-store_set-clause-left : goal.returns-in-Err-store_set-clause-left
-returns-in-Err-store_set-clause-left g c told =
+pub returns-in-Ok-fill_in-clause-filled : goal.returns-in-Ok-fill_in-clause-filled
+returns-in-Ok-fill_in-clause-filled g c told =
     let mid = c.is_empty_database.ensures.kept in
-    let late = c.base_of.ensures.kept in
-    subst (IsLeft (g.S.TileStore.told c.args.store.now) (g.S.TileStore.told c.store_set.new.store)) (sym c.of_store-in-Err-store_set.ensures)
-    (are_left (g.S.TileStore.told c.args.store.now) (g.S.TileStore.told c.base_of.new.store) (g.S.TileStore.told c.store_set.new.store) c.in-Err-store_set.error (late.told ∙ mid.told) c.in-Err-store_set.ensures.free (c.in-Err-store_set.ensures.left (late.tells ∙ (mid.tells ∙ told))))
+    subst (λ (t : Tables). IsFilled (g.B.Backend.told c.args.backend.now) c.args.document.now (started t) (g.S.TileStore.told c.fill_in.new.store) c.in-Ok-fill_in.count) mid.told (c.in-Ok-fill_in.ensures.filled (mid.tells ∙ told))
 
-pub returns-in-Ok-store_set-clause-store_still : goal.returns-in-Ok-store_set-clause-store_still
-returns-in-Ok-store_set-clause-store_still g c = c.in-Ok-store_set.ensures.fault.still ∙ c.in-Ok-base_of.ensures.fault.still ∙ c.in-Ok.ensures.fault.still
+pub returns-in-Err-fill_in-clause-answer : goal.returns-in-Err-fill_in-clause-answer
+returns-in-Err-fill_in-clause-answer g c =
+    let mid = c.is_empty_database.ensures.kept in
+    moved_answer c.args.max_tiles (g.B.Backend.told c.args.backend.now) (g.S.TileStore.tells c.args.store.now) (g.S.TileStore.tells c.is_empty_database.new.store) (g.S.TileStore.told c.args.store.now) (g.S.TileStore.told c.is_empty_database.new.store) (Err c.in-Err-fill_in.error) mid.tells mid.told c.in-Err-fill_in.ensures.answer
+
+pub returns-in-Err-fill_in-clause-causes : goal.returns-in-Err-fill_in-clause-causes
+returns-in-Err-fill_in-clause-causes g c =
+    later_answer c.args.max_tiles (g.B.Backend.faults c.args.backend.now) (g.B.Backend.faults c.fill_in.new.backend) (g.S.TileStore.faults c.args.store.now) (g.S.TileStore.faults c.is_empty_database.new.store) (g.S.TileStore.faults c.fill_in.new.store) (Err c.in-Err-fill_in.error)
+    c.is_empty_database.ensures.kept.faults c.in-Err-fill_in.ensures.causes
+
+pub returns-in-Err-fill_in-clause-left : goal.returns-in-Err-fill_in-clause-left
+returns-in-Err-fill_in-clause-left g c told =
+    let mid = c.is_empty_database.ensures.kept in
+    subst (λ (t : Tables). IsLeft t (g.S.TileStore.told c.fill_in.new.store) c.in-Err-fill_in.error) mid.told (c.in-Err-fill_in.ensures.left (mid.tells ∙ told))
