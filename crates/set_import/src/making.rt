@@ -21,7 +21,7 @@ use tile_import::ImportError;
 /// range or `InvalidMetadataUtf8Encoding` where it isn't there or isn't UTF-8, or with `InvalidMetadata`
 /// where it isn't an object of JSON, nested at most 127 deep; then the answers of `tile_import::import`, in its order:
 /// of the set, as a store that describes nothing has an empty flat one, of the archive's directories and of contents
-/// that collide. Want of memory, and a fault of the archive or the store, may come in the place of each.
+/// that collide. Running out of memory, and a fault of the archive or the store, may come in the place of each.
 ///
 /// Refused, the store holds what it held. But where it described nothing, and failed or found no memory in the commit
 /// itself, the tables of a flat set stand in it without a row: making them is a step of
