@@ -47,10 +47,10 @@ def verified_chains():
 
 def across_pages():
     """A base of more than a page of rows with patches at the border of the pages, over all of it, and beside it."""
-    tiles = {(6, k // 64, k % 64): b"%d" % k for k in range(1030)}
-    queries = ["query 6 15 0", "query 6 16 63", "query 6 16 62", "query 7 0 0"]
+    tiles = {(6, k // 64, k % 64): b"%d" % k for k in range(518)}
+    queries = ["query 6 7 0", "query 6 8 63", "query 6 8 62", "query 7 0 0"]
     for layout in ("flat", "normalized", "dedup-id"):
-        for put in [{(6, 15, 63): b"a", (6, 16, 0): None}, {place: None for place in tiles}, {place: b"same" for place in tiles}, {(7, 0, 127): b"b"}]:
+        for put in [{(6, 7, 63): b"a", (6, 8, 0): None}, {place: None for place in tiles}, {place: b"same" for place in tiles}, {(7, 0, 127): b"b"}]:
             yield text("option force", store("base", layout, tiles), store("patch", "flat", put), queries)
 
 

@@ -153,21 +153,21 @@ def changing_contents():
 
 
 def across_pages():
-    """Sets at the borders of pages of 1,024 rows, which end with a short page, an empty one or a whole one, of tiles and of
+    """Sets at the borders of pages of 512 rows, which end with a short page, an empty one or a whole one, of tiles and of
     contents: each tile is there once. Then refusals on two pages, of which the first in the order of tests is answered."""
     def tiles(count):
         return {(6, k // 64, k % 64): b"%d" % k for k in range(count)}
 
-    for layout, counts in [("flat", [1023, 1024, 1025, 2048]), ("normalized", [1025]), ("dedup-id", [1024, 1025])]:
+    for layout, counts in [("flat", [511, 512, 513, 1024]), ("normalized", [513]), ("dedup-id", [512, 513])]:
         for count in counts:
-            streamed(text(store("base", layout, tiles(count)), "query 6 0 63", "query 6 15 0", "query 6 16 63"))
-    streamed(text(store("base", "dedup-id", tiles(1025)), "query 6 16 63"), name="hashed")
+            streamed(text(store("base", layout, tiles(count)), "query 6 0 63", "query 6 7 0", "query 6 8 63"))
+    streamed(text(store("base", "dedup-id", tiles(513)), "query 6 8 63"), name="hashed")
     # rows stand in the order of their places: the last one of the first page, and the first one of the second
-    first, second = 1 + 1023, 1 + 1024
+    first, second = 1 + 511, 1 + 512
 
     def with_words(layout, *changes):
-        lines = store("base", layout, tiles(1030))
-        assert " i6 i15 i63 " in lines[first] and " i6 i16 i0 " in lines[second]
+        lines = store("base", layout, tiles(518))
+        assert " i6 i7 i63 " in lines[first] and " i6 i8 i0 " in lines[second]
         for at, column, word in changes:
             words = lines[at].split(" ")
             lines[at] = " ".join([*words[:column], word, *words[column + 1:]])

@@ -38,6 +38,7 @@ pub mod ElementLemmas
 pub mod FactLemmas
 pub mod BegunLemmas
 pub mod HollowLemmas
+pub mod IntervalLemmas
 pub mod PartLemmas
 pub mod PatchLemmas
 pub mod PatchedSetLemmas

@@ -34,7 +34,7 @@ module _ {X : Type 0} (sees : List (List Cell) → X → Type 0) where
 
   -- the same over a store that was only read
   pub last_told : (table : TableName) (tells tells_now : Bool) (t now : Tables) (from : ℕ) (whole : Bool) (old new : X) → tells_now ≡ tells → now ≡ t → SeesTold sees tells (take from (t.rows table)) old
-      → (SeesTold sees tells_now (take from (now.rows table)) old → SeesTold sees tells_now (take (from + 1024) (now.rows table)) new) → (tells_now ≡ true → whole ≡ nat_le (from + 1024) (length (now.rows table))) → whole ≡ false → SeesTold sees tells (t.rows table) new
+      → (SeesTold sees tells_now (take from (now.rows table)) old → SeesTold sees tells_now (take (from + 512) (now.rows table)) new) → (tells_now ≡ true → whole ≡ nat_le (from + 512) (length (now.rows table))) → whole ≡ false → SeesTold sees tells (t.rows table) new
   last_told table tells tells_now t now from whole old new same told s step is last =
       let before : SeesTold sees tells_now (take from (now.rows table)) old = subst (λ (x : Tables). SeesTold sees tells_now (take from (x.rows table)) old) (sym told) (subst (λ b. SeesTold sees b (take from (t.rows table)) old) (sym same) s) in
-      subst (λ b. SeesTold sees b (t.rows table) new) same (subst (λ (x : Tables). SeesTold sees tells_now (x.rows table) new) told (pages_done tells_now (now.rows table) (from + 1024) whole new is last (step before)))
+      subst (λ b. SeesTold sees b (t.rows table) new) same (subst (λ (x : Tables). SeesTold sees tells_now (x.rows table) new) told (pages_done tells_now (now.rows table) (from + 512) whole new is last (step before)))

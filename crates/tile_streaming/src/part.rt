@@ -1,6 +1,7 @@
 // The part of a set that is converted: its tiles whose ids lie in intervals.
-ghost use Rattle.std.specs.Prelude.{◌≡◌, ◌++◌, ◌∷◌, [], cond, filter, IfOk, List, MatchOption, OnOk};
-ghost use Rattle.pm_walk.specs.Intervals.{in_intervals};
+ghost use Rattle.std.specs.Prelude.{◌≡◌, ◌++◌, ◌∷◌, [], cond, false, filter, IfOk, List, ltb, MatchOption, OnOk, true};
+ghost use Rattle.pm_walk.specs.Intervals.{AreApart, in_intervals};
+ghost use Rattle.std.specs.List.Sorted.{IsPartitionPoint};
 ghost use Rattle.tile_streaming.specs.Part.{lies, part_in};
 ghost use Rattle.tile_streaming.specs.declared.mark.Mark.{Mark};
 
@@ -10,18 +11,25 @@ use base_values::OutOfMemory;
 use std::alloc::Global;
 use tile_extract::IdIntervals;
 
-// Whether an id lies in one of some intervals.
+// How many of some intervals in order end before an id.
+fn ended_before(intervals: &[(u64, u64)], id: u64) -> usize
+    requires { AreApart 0 intervals.now }
+    ensures { IsPartitionPoint (λ i. ltb i.1 id ≡ true) (λ i. ltb i.1 id ≡ false)
+        intervals.now result }
+{
+    intervals.partition_point(|interval| interval.1 < id)
+}
+
+// Whether an id lies in one of some intervals in order: in the first that doesn't end before it.
 fn lies_in(intervals: &[(u64, u64)], id: u64) -> bool
+    requires { AreApart 0 intervals.now }
     ensures { result ≡ in_intervals id intervals.now }
 {
-    let mut rest = intervals;
-    while let Some((interval, others)) = rest.split_first() {
-        if interval.0 <= id && id <= interval.1 {
-            return true;
-        }
-        rest = others;
+    let first = ended_before(intervals, id);
+    if first >= intervals.len() {
+        return false;
     }
-    false
+    intervals[first].0 <= id
 }
 
 // Puts a mark behind others, where it is one of them.

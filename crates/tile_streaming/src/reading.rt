@@ -13,10 +13,10 @@ use std::alloc::Global;
 use tile_hash::HashAlgorithm;
 
 /// How many rows a page has at most.
-const PAGE: u64 = 1_024;
+const PAGE: u64 = 512;
 
 /// How many pages are asked for at most: those of 2^64 rows, which no table has.
-const MOST_PAGES: u64 = 1 << 54;
+const MOST_PAGES: u64 = 1 << 55;
 
 // Reads the page of a table of contents from a row on, behind those before it. Whether it is a whole one.
 fn read_content_page<S: TileStore>(
