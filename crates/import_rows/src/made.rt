@@ -13,7 +13,7 @@ use tile_bridge::convert;
 use tile_import::ImportError;
 
 // In one commit, or in several.
-fn put<B: Backend, S: TileStore>(
+fn import_by<B: Backend, S: TileStore>(
     alloc: Global,
     streams: bool,
     backend: &mut B,
@@ -37,7 +37,7 @@ fn of_bytes<S: TileStore>(
 ) -> Option<()> {
     let max_tiles = number::<u64>(words)?;
     let mut backend = backend_of(alloc, held)?;
-    let answer = put(alloc, streams, &mut backend, store, max_tiles);
+    let answer = import_by(alloc, streams, &mut backend, store, max_tiles);
     let status = import_status(&answer);
     said(out, answer)?;
     say(out, &status)
@@ -54,7 +54,7 @@ fn of_medium<S: TileStore>(
 ) -> Option<()> {
     let max_tiles = number::<u64>(words)?;
     let mut backend = medium(alloc, held, number(words)?)?;
-    let answer = put(alloc, streams, &mut backend, store, max_tiles);
+    let answer = import_by(alloc, streams, &mut backend, store, max_tiles);
     let status = import_status(&answer);
     said(out, answer)?;
     say(out, &status)?;
