@@ -238,7 +238,7 @@ def streamed(rows):
     for adds in (*several, [(t, large) for t in range(85, 2085)], [(t, b'a' if t % 7 else large) for t in range(21, 5000)]):
         data = archive(adds, '{"name":"town"}')
         hold(rows, data)
-        counts, first = commits(adds), 2 + counted(data)
+        counts, first = commits(adds), 2 + counted(data, len(adds))
         entries = [data for n, (t, data) in enumerate(adds) if not n or adds[n - 1] != (t - 1, data)]
         Made(rows)
         rows.row(f'made streamed medium {len(adds)} 0', f'Ok({len(adds)})', 0, first + len(entries))
@@ -251,7 +251,7 @@ def streamed(rows):
             held.fail(call)
             rows.row(f'made streamed medium {len(adds)} 0', 'Err(Store(StoreFault))', 6, reads)
             rows.row('set fail')
-            export(rows, archive(adds[:done], '{}'))
+            export(rows, pm.archive(adds[:done])[0])
             done += count
     # whether anything is described, and the tables
     hold(rows, DESCRIBED)
@@ -265,12 +265,12 @@ def streamed(rows):
     adds = several[-1]
     data = archive(adds)
     hold(rows, data)
-    first = 2 + counted(data)
+    first = 2 + counted(data, len(adds))
     for call in (*range(1, 6), first, first + 1, first + 1000, first + 1001, first + 1002, first + 2001):
         Made(rows)
         rows.row(f'made streamed medium 2001 {call}', 'Err(Archive(Reading(Fault)))', 6, call)
         if call > first:
-            export(rows, archive(adds[:max(call - first - 2, 0) // 1000 * 1000]))
+            export(rows, pm.archive(adds[:max(call - first - 2, 0) // 1000 * 1000])[0])
         else:
             say_names(rows)
     # in a store that describes anything all is put in one commit
