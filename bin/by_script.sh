@@ -27,10 +27,8 @@ sets=$(($# - 1))
 eval "out=\${$#}"
 # shellcheck disable=SC2154
 shown_out=$out
-case $out in
-/*) ;;
-*) out=./$out ;;
-esac
+plain_path "$out"
+out=$plain
 test_sqlite3
 number=0
 for file; do
@@ -109,16 +107,17 @@ size=$(wc -c <"$work/script")
 set_at() {
     shift "$1"
     shift
-    echo "$1"
+    printf '%s\n' "$1"
 }
 
 # why the converter refused, with files and tiles in place of numbers of lines
 explain_report() {
     status=$1
     shift
-    words=$(LC_ALL=C awk -v from="$room/out" -v to="$shown_out" '{ at = index($0, from); if (at) $0 = substr($0, 1, at - 1) to substr($0, at + length(from)) }
+    words=$(FROM=$room/out TO=$shown_out LC_ALL=C awk 'BEGIN { from = ENVIRON["FROM"]; to = ENVIRON["TO"] }
+        { at = index($0, from); if (at) $0 = substr($0, 1, at - 1) to substr($0, at + length(from)) }
         /^tileset: / { sub(/^tileset: /, ""); last = $0 } END { print last }' "$work/said")
-    words=$(echo "$words" | sed "s/^the script's base is refused: //; s/^patch [0-9]* of the script is refused: //; s/as a flat set, without its hashes, it is taken/without --verify it is taken/
+    words=$(printf '%s\n' "$words" | sed "s/^the script's base is refused: //; s/^patch [0-9]* of the script is refused: //; s/as a flat set, without its hashes, it is taken/without --verify it is taken/
         s/option force/--force/; s/without option verify none is asked for/without --verify none is asked for/")
     reason=$(tail -n 1 "$work/report")
     case $reason in

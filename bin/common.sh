@@ -1,5 +1,8 @@
 # What the scripts here share. Each of them has set `here`, its folder, and `tool`, its name, before it reads this file.
 set -eu
+# What the environment has under these names is none of ours: some are files that are removed at the end, or processes
+# that are ended.
+unset room work reader copier converter rewriter follower namer trying hashless
 
 # A standard stream that is closed is opened the wrong way round, so that its use fails and no file that is
 # opened later gets its number.
@@ -8,7 +11,7 @@ set -eu
 (exec 9>&2) 2>/dev/null || exec 2>/dev/null
 
 say() {
-    echo "$tool: $*" >&2
+    printf '%s\n' "$tool: $*" >&2
 }
 
 # fail STATUS WORDS..: says why, and ends.
@@ -24,11 +27,12 @@ print_help() {
     sed -n '2,/^[^#]/s/^# \{0,1\}//p' "$0"
 }
 
-# A path that no command takes for an option or for a name of its own.
+# plain_path PATH: sets `plain` to a path that no command takes for an option or for a name of its own. What is printed
+# would lose line feeds at its end.
 plain_path() {
     case $1 in
-    /*) printf '%s\n' "$1" ;;
-    *) printf './%s\n' "$1" ;;
+    /*) plain=$1 ;;
+    *) plain=./$1 ;;
     esac
 }
 

@@ -3,10 +3,8 @@
 
 eval "out=\${$#}"
 shown_out=$out
-case $out in
-/*) ;;
-*) out=./$out ;;
-esac
+plain_path "$out"
+out=$plain
 folder=${out%/*}
 folder=${folder:-/}
 

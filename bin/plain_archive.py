@@ -15,6 +15,7 @@ import zlib
 HEADER = struct.Struct('<7sB11Q6B4iB2i')
 ROOT_END = 16384
 DEEPEST = 6
+IDS = 1 << 64
 MOST = 1 << 31
 PIECE = 1 << 20
 PLAIN = 1
@@ -178,14 +179,19 @@ class Archive:
     def entries(self):
         """All tile entries, in order."""
         found = Entries()
-        self.walk(self.plain(self.root, 'the root'), found, 0)
+        self.walk(self.plain(self.root, 'the root'), found, 0, range(IDS))
         return found
 
-    def walk(self, directory, found, depth):
-        """Adds the tile entries of a directory and of those below it."""
+    def walk(self, directory, found, depth, ids):
+        """Adds the tile entries of a directory and of those below it. A reader looks for some ids there alone, so that it
+        finds no tile of other ones."""
         if depth > DEEPEST:
             raise Refused('directories lie deeper than six below the root')
-        for entry in zip(*columns(directory)):
+        entries = list(zip(*columns(directory)))
+        for at, entry in enumerate(entries):
+            end = entries[at + 1][0] if at + 1 < len(entries) else ids.stop
+            if not ids.start <= entry[0] <= entry[0] + entry[3] <= end <= ids.stop:
+                raise Refused(f'the entry of id {entry[0]} is out of order, or lies where no reader finds it')
             if entry[3]:
                 if entry[1] + entry[2] > self.data[1]:
                     raise Refused(f'the tile of id {entry[0]} lies beyond the tile data')
@@ -194,7 +200,7 @@ class Archive:
             if entry[1] + entry[2] > self.leaves[1]:
                 raise Refused('a leaf lies beyond the leaf directories')
             leaf = self.part(self.leaves[0] + entry[1], entry[2], 'a leaf')
-            self.walk(decompressed(leaf, self.compression), found, depth + 1)
+            self.walk(decompressed(leaf, self.compression), found, depth + 1, range(entry[0], end))
 
     def pieces(self):
         """The tile data, piece by piece."""
@@ -231,13 +237,20 @@ def directories(entries):
         size *= 2
 
 
+def no_number(word):
+    """Refuses what Python reads as a number and JSON doesn't."""
+    raise ValueError(f'{word} is no number')
+
+
 def metadata_of(source):
-    """The metadata of an archive, decompressed, which have to be JSON."""
+    """The metadata of an archive, decompressed, which have to be JSON in UTF-8."""
     metadata = source.plain(source.metadata, 'the metadata')
     try:
-        json.loads(metadata or b'{}')
+        json.loads((metadata or b'{}').decode('utf-8'), parse_int=str, parse_constant=no_number)
     except ValueError as error:
-        raise Refused(f'the metadata are no JSON: {error}') from error
+        raise Refused(f'the metadata are no JSON in UTF-8: {error}') from error
+    except RecursionError as error:
+        raise Refused('the metadata are nested too deep') from error
     return metadata or b'{}'
 
 

@@ -83,9 +83,10 @@ rewrite() {
     [ $wide = 0 ] || narrow "$1" "$first" "$2"
 }
 
-# narrow FILE WIDE TO: the plain file with texts in UTF-8 of one that has them in UTF-16
+# narrow FILE WIDE TO: the plain file with texts in UTF-8 of one that has them in UTF-16. The words of a command of
+# sqlite3 end at blanks and have backslashes for other signs, so each byte of the path is spelled out.
 narrow() {
-    run_sqlite3 "$1" /dev/null "$2" ".clone $3"
+    run_sqlite3 "$1" /dev/null "$2" ".clone \"$(printf '%s' "$3" | od -An -v -to1 | tr -d '\n' | tr ' ' '\\')\""
     counts="select (select count(*) from tiles), (select count(*) from metadata), (select count(*) from tiles where tile_data is null), (select coalesce(sum(length(tile_data)), 0) from tiles)"
     [ "$(ask "$2" "$counts")" = "$(ask "$3" "$counts")" ] || fail 1 "$1: not all of its rows came; try again"
     rm "$2"

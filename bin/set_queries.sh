@@ -114,16 +114,23 @@ tenths() {
     echo "cast(round($1 * 10000000) as integer)"
 }
 
-# the rows, in the layout $1 where that isn't flat and the stored hashes are digests
+# an expression: whether `tiles` has the same tiles as the rows that a query gives, by their places and contents
+are_tiles() {
+    echo "(not exists (select z, x, y, d from grid where length(d) > 0 except $1) and not exists ($1 except select z, x, y, d from grid))"
+}
+
+# the rows, in the layout $1 where that isn't flat, the stored hashes are digests and its tables have the tiles of `tiles`
 sql_rows() {
     flat="'row tiles i' || z || ' i' || x || ' i' || y || ' ' || case when d is null then 'n' else 'x' || hex(d) end"
     map="select $(whole zoom_level) as z, $(whole tile_column) as x, $(whole tile_row) as y"
     table=tiles
     case $1 in
     normalized) table=map own="select not exists (select 1 from map where tile_id is not null and not $(is_digest tile_id))
-        and not exists (select 1 from images where not $(is_digest tile_id)) and not exists (select 1 from twice) as ok" ;;
+        and not exists (select 1 from images where not $(is_digest tile_id)) and not exists (select 1 from twice)
+        and $(are_tiles "select z, x, y, cast(tile_data as blob) from ($map, tile_id as id from map) join images on tile_id = id where $in_grid and length(tile_data) > 0") as ok" ;;
     flat-with-hash) table=tiles_with_hash own="select not exists (select 1 from tiles_with_hash where (tile_hash is null) <> (tile_data is null) or tile_hash is not null and not $(is_digest tile_hash))
-        and not exists (select 1 from twice) as ok" ;;
+        and not exists (select 1 from twice)
+        and $(are_tiles "select z, x, y, cast(d as blob) from ($map, tile_data as d from tiles_with_hash) where $in_grid and length(d) > 0") as ok" ;;
     *) own='select 0 as ok' ;;
     esac
     cat <<SQL

@@ -7,6 +7,8 @@ import os
 import sqlite3
 import urllib.parse
 
+from python_said import say
+
 # how many cells a zoom has at most, and how deep zooms go
 MOST = 16384
 DEEPEST = 31
@@ -129,8 +131,10 @@ def place_of(index, zoom):
 
 
 def is_set(path):
-    """Whether a file is a database of SQLite."""
+    """Whether a file is a database of SQLite. A pipe isn't opened, which would wait for its writer."""
     try:
+        if not os.path.isfile(path):
+            return False
         with open(path, 'rb') as file:
             return file.read(16) == b'SQLite format 3\0'
     except OSError:
@@ -150,16 +154,32 @@ def cells_of_entries(lines):
     return cells
 
 
+def whole(column):
+    """An expression of SQL: the whole number in a column, or null. A text spells one in at most nine digits, without a
+    zero in front."""
+    return (f"case typeof({column}) when 'integer' then {column}"
+            f" when 'real' then case when {column} = cast({column} as integer) then cast({column} as integer) end"
+            f" when 'text' then case when {column} = '0' or {column} glob '[1-9]*' and {column} not glob '*[^0-9]*'"
+            f" and length({column}) < 10 then cast({column} as integer) end end")
+
+
 def cells_of_set(path):
-    """The cells of a set, whose rows are counted from the bottom."""
+    """The cells of a set, whose rows are counted from the bottom. Rows without a place are told, and left out."""
     cells = Cells()
-    name = f'file:{urllib.parse.quote(os.path.abspath(path))}?mode=ro'
-    rows = 'select zoom_level, tile_column, tile_row, length(tile_data) from tiles where length(tile_data) > 0'
+    outside = 0
+    name = f'file:{urllib.parse.quote(os.fsencode(os.path.abspath(path)))}?mode=ro'
+    places = ', '.join(whole(column) for column in ('zoom_level', 'tile_column', 'tile_row'))
+    size = 'length(cast(tile_data as blob))'
+    rows = f'select {places}, {size} from tiles where {size} > 0'
     try:
         with contextlib.closing(sqlite3.connect(name, uri=True)) as database:
             for z, x, y, length in database.execute(rows):
-                if all(isinstance(n, int) for n in (z, x, y)) and 0 <= z <= 30 and 0 <= x < 1 << z and 0 <= y < 1 << z:
+                if None not in (z, x, y) and 0 <= z <= 30 and 0 <= x < 1 << z and 0 <= y < 1 << z:
                     cells.add(z, x, (1 << z) - 1 - y, 0, length)
+                else:
+                    outside += 1
     except sqlite3.Error as error:
         raise Unread(1, f'{path}: {error}') from error
+    if outside:
+        say(f'{path}: {outside} rows outside the grid of zooms 0 to 30 are left out')
     return cells

@@ -7,7 +7,7 @@ built=$out/unproved
 
 # `rt try` builds the program in a room of its own, runs it and removes it. The build is kept by a second name, which it
 # gets as soon as it is there and has until the end; it is whole once it runs. The converter has work for some seconds
-# then, and the others none.
+# then. The others have none, and are run again until one run is seen, each from a room of its own.
 build() {
     room=$(mktemp -d)
     trap 'kill "${trying-}" 2>/dev/null || true; rm -rf "$room"' EXIT
@@ -16,11 +16,16 @@ build() {
     trap 'exit 143' TERM
     say 'building without proofs, a minute or two'
     case $tool in
-    tileset) set -- bulk 100000 1 ;;
-    mbtiles-to-pmtiles | pmtiles-to-mbtiles) set -- "$room/none" "$room/part" ;;
-    *) set -- "$room/none" "$room/part" 0 0 0 0 0 ;;
+    tileset) set -- -- bulk 100000 1 ;;
+    *)
+        mkdir "$room/cases"
+        for number in $(seq 100); do
+            : >"$room/cases/$number"
+        done
+        set -- --cases "$room/cases" -- "$room/none" "$room/part"
+        ;;
     esac
-    (cd "$top/crates/$program" && TMPDIR=$room exec rt try -- "$@") </dev/null >"$room/said" 2>&1 &
+    (cd "$top/crates/$program" && TMPDIR=$room exec rt try "$@") </dev/null >"$room/said" 2>&1 &
     trying=$!
     while kill -0 "$trying" 2>/dev/null; do
         for made in "$room"/*/*/program; do

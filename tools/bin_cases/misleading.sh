@@ -29,6 +29,9 @@ misleads() {
     run "$convert" --by-script a.mbtiles made.pmtiles
     status 0
     right_or_refused
+    # rows of other tables are those of `tiles`, or not taken for them
+    run "$convert" --by-script --verify a.mbtiles made.pmtiles
+    right_or_refused
     ends
 }
 # must NAME SQL: a set that has to be converted

@@ -90,6 +90,83 @@ else
     done
     ends
 
+    fresh 'archives of which readers and a walk find other tiles, and odd metadata'
+    # writes archives of two leaves, a root and metadata, all numbers of which are small
+    cat >made.py <<'PYTHON'
+import struct
+def directory(*entries):
+    ids = [entry[0] - before[0] for before, entry in zip(((0,), *entries), entries)]
+    return bytes([len(entries), *ids, *(entry[3] for entry in entries), *(entry[2] for entry in entries), *(entry[1] + 1 for entry in entries)])
+def archive(name, low, high, metadata=b'{}', data=b'AABBBCCCC'):
+    leaves = directory(*low) + directory(*high)
+    root = directory((0, 0, len(directory(*low)), 0), (50, len(directory(*low)), len(directory(*high)), 0))
+    at = [127, 127 + len(root), 127 + len(root) + len(metadata), 127 + len(root) + len(metadata) + len(leaves)]
+    places = (at[0], len(root), at[1], len(metadata), at[2], len(leaves), at[3], len(data))
+    with open(name, 'wb') as file:
+        file.write(b'PMTiles\x03' + struct.pack('<11Q6B4iB2i', *places, 0, 0, 0, 0, 1, 1, 2, 0, 3, 0, 0, 0, 0, 0, 0, 0) + root + metadata + leaves + data)
+low, high = [(0, 0, 2, 1), (9, 2, 3, 2)], [(60, 5, 4, 1)]
+archive('good', low, high)
+# a reader looks for the ids 2 and 70 in the other leaf, and for 55 in it too
+archive('below', low, [(2, 2, 3, 1), (60, 5, 4, 1)])
+archive('above', [*low, (70, 2, 3, 1)], [(80, 5, 4, 1)])
+archive('run', [*low, (40, 2, 3, 17)], high)
+archive('order', [(0, 0, 2, 1), (0, 2, 3, 1)], high)
+archive('over', [(0, 0, 2, 5), (3, 2, 3, 1)], high)
+archive('utf16', low, high, '{"name":"a"}'.encode('utf-16'))
+archive('nan', low, high, b'{"a":NaN}')
+archive('deep', low, high, b'[' * 200000 + b']' * 200000)
+archive('long', low, high, b'{"a":' + b'9' * 5000 + b'}')
+PYTHON
+    python3 made.py
+    for name in good long; do
+        run "$plain" $name to.pmtiles
+        status 0
+        prints '^4 tiles in 3 entries$'
+        for place in '0 0 0' '3 0 0' '2 2 3' '3 4 7'; do
+            # shellcheck disable=SC2086
+            "$fatyngu" tile $name $place >tile 2>/dev/null
+            # shellcheck disable=SC2086
+            run "$fatyngu" tile to.pmtiles $place
+            holds cmp -s out tile
+        done
+        rm to.pmtiles
+    done
+    mkdir to
+    for name in below above run order over; do
+        run "$bin/tile_verify" $name
+        status 1
+        run "$plain" --no-verify $name to/made.pmtiles
+        status 1
+        says 'out of order, or lies where no reader finds it'
+        holds nothing_in to
+    done
+    for name in utf16 nan deep; do
+        run "$plain" --no-verify $name to/made.pmtiles
+        status 1
+        says '^pmtiles-plain: the metadata are \(no JSON in UTF-8\|nested too deep\)'
+        holds [ "$(wc -l <err)" = 1 ]
+        holds nothing_in to
+    done
+    ends
+
+    fresh 'a check that can not be made'
+    built=$here/crates/tile_verify_program/out/tile_verify_program
+    mv "$built" kept
+    mkdir to
+    run env PATH=/usr/bin:/bin "$plain" "$one_tile" to/made.pmtiles
+    status 1
+    says "rt isn.t on PATH"
+    says "what was made isn.t checked, and not put in place; --no-verify"
+    holds eval '! grep -q "not sound" err'
+    holds nothing_in to
+    mv kept "$built"
+    mkdir path
+    for word in sh dirname readlink sed; do ln -s "$(command -v $word)" path/$word; done
+    run env PATH="$t/path" "$plain" "$one_tile" to/made.pmtiles
+    status 1
+    says 'the command python3 is missing'
+    ends
+
     fresh 'words and files of pmtiles-plain'
     "$bin/mbtiles-to-pmtiles" "$top/examples/places.mbtiles" first.pmtiles >/dev/null
     compressed first.pmtiles other.pmtiles

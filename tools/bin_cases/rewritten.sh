@@ -52,6 +52,20 @@ read_all_the_same 'a generated column' "$names; create table tiles (zoom_level i
     insert into tiles (zoom_level, tile_column, tile_row, raw) values (0, 0, 0, x'01'), (1, 1, 0, x'02'), (1, 0, 1, x'02')"
 read_all_the_same 'a strict table' "$names; create table tiles ($columns) strict; $three"
 
+fresh 'a folder whose name has blanks and other signs'
+"$real" a.mbtiles "pragma encoding = 'UTF-16'; $names; create table tiles ($columns); $three"
+for folder in 'my folder' "it's" 'quo"te' 'back\slash' 'octal\101' '
+lines
+' 'é %41?#'; do
+    mkdir "$folder"
+    run "$convert" a.mbtiles "$folder/made.pmtiles"
+    status 0
+    holds same "$folder/made.pmtiles" a.mbtiles
+    holds [ "$(ls -A "$folder")" = made.pmtiles ]
+done
+holds nothing_left
+ends
+
 # a form that the program answers 10 on, whatever it reads by itself: a program that does so for one file first
 fresh 'what is said of a set that is rewritten, and its end'
 set_of a.mbtiles "$one"
@@ -138,7 +152,41 @@ holds [ ! -e made.pmtiles ]
 holds nothing_left
 ends
 
+# SQLite looks contents up by the index, and gives 40 rows of the 64
+for form in '' 'pragma auto_vacuum = full;' "pragma encoding = 'UTF-16';"; do
+    fresh "an index that lacks rows${form:+, $form}"
+    "$real" a.mbtiles "$form $names; create table map (zoom_level integer, tile_column integer, tile_row integer, tile_id integer); create table images (tile_id integer, tile_data blob);
+        with recursive n(v) as (values (0) union all select v + 1 from n where v < 63) insert into images select v, cast('c' || v as blob) from n;
+        insert into map select 3, tile_id % 8, tile_id / 8, tile_id from images;
+        create index i on images (tile_id) where tile_id < 40; create index j on map (tile_id) where tile_id < 40;
+        create view tiles as select zoom_level, tile_column, tile_row, tile_data from map join images on map.tile_id = images.tile_id;
+        pragma writable_schema = on; update sqlite_schema set sql = replace(sql, ' where tile_id < 40', '') where type = 'index'"
+    holds [ "$("$real" a.mbtiles 'select count(*) from tiles; select count(*) from map')" = '40
+64' ]
+    for way in '' --by-script; do
+        # shellcheck disable=SC2086 no word, or one
+        run "$convert" $way a.mbtiles made.pmtiles
+        status 1
+        says 'a.mbtiles is damaged: .* missing from index \|a.mbtiles has its texts in UTF-16'
+        holds [ ! -e made.pmtiles ]
+        holds nothing_left
+    done
+    ends
+done
+
 if command -v python3 >/dev/null; then
+    fresh 'an index by a function that sqlite3 does not have'
+    python3 - <<'PYTHON'
+import sqlite3
+base = sqlite3.connect('a.mbtiles')
+base.create_function('odd', 1, lambda given: given, deterministic=True)
+base.executescript("""create table metadata (name text, value text); create table tiles (zoom_level integer, tile_column integer, tile_row integer, tile_data blob);
+    insert into tiles values (0, 0, 0, x'01'); create table beside (a); create index i on beside (odd(a)); insert into beside values (1)""")
+PYTHON
+    run "$convert" --by-script a.mbtiles made.pmtiles
+    status 0
+    holds same made.pmtiles a.mbtiles
+    ends
     # SQLite gives 199 rows of the 200, and says nothing
     fresh 'a table whose page says one row less'
     "$real" a.mbtiles "pragma page_size = 512; $names; create table tiles ($columns, primary key (zoom_level, tile_column, tile_row)) without rowid;

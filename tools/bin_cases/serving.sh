@@ -169,6 +169,18 @@ holds [ "$(tail -n 1 out)" = "  ...............................:" ]
 cp out first
 run "$fatyngu" show --map a.pmtiles
 holds cmp -s out first
+# places that are texts or halves of numbers, contents that are texts, and a column whose name an expression may have
+"$real" b.mbtiles "create table tiles (zoom_level, tile_column, tile_row, tile_data, bytes); insert into tiles values ('1', '0', '1', x'0102', 0), (1.0, 1, 1, 'é', 0), (1, 0, 0, x'010203', 0), ('01', 1, 0, x'01', 0), (1, 0.5, 0, x'01', 0), (1, 2, 0, x'01', 0), (x'31', 0, 0, x'01', 0)"
+run "$fatyngu" show --map b.mbtiles
+status 0
+holds [ "$(cat out)" = 'zoom 1: 3 tiles, 7 bytes, the largest 3; columns 0 to 1, rows 0 to 1
+  ##
+  #.' ]
+says 'b.mbtiles: 4 rows outside the grid'
+cp b.mbtiles $'caf\xe9.mbtiles'
+run "$fatyngu" show --map $'caf\xe9.mbtiles'
+status 0
+prints '^zoom 1: 3 tiles'
 for words in '--map' '--map a b' '--map --entries a.pmtiles' '--map --map a.pmtiles'; do
     # shellcheck disable=SC2086
     run "$fatyngu" show $words

@@ -161,6 +161,11 @@ status 0
 run "$fatyngu" verify a.mbtiles
 status 1
 says 'aggregate hash mismatch'
+# a name that other commands take for an option
+mv a.mbtiles ./--a.mbtiles
+run "$fatyngu" verify --a.mbtiles
+status 1
+says 'aggregate hash mismatch'
 run "$fatyngu" verify missing.mbtiles
 status 6
 : >empty

@@ -1,0 +1,134 @@
+# Cases of tools/check_bin: what surrounds a run: names in the environment, pipes and devices in the place of files,
+# and names with signs that a shell drops.
+# shellcheck disable=SC2034,SC2154
+
+# owned WORDS..: a command in an environment that has the names of the scripts' own folders and processes
+owned() {
+    run env room="$t/kept" work="$t/kept" new="$t/kept/file" marks="$t/kept" hashless=1 reader=$held copier=$held converter=$held rewriter=$held \
+        follower=$held namer=$held trying=$held "$@"
+    holds [ "$(cat kept/file 2>/dev/null)" = mine ]
+    holds kill -0 $held
+}
+fresh 'names in the environment'
+mkdir kept
+echo mine >kept/file
+sleep 1000 &
+held=$!
+set_of a.mbtiles "$three"
+set_of hashed.mbtiles "$three; insert into metadata values ('agg_tiles_hash', '00')"
+owned "$bin/mbtiles-script"
+status 2
+owned "$bin/mbtiles-script" missing.mbtiles
+status 3
+owned "$bin/mbtiles-script" a.mbtiles
+status 0
+owned "$convert" a.mbtiles made.pmtiles
+status 0
+owned "$convert" a.mbtiles made.pmtiles
+status 1
+owned "$convert" --by-script a.mbtiles scripted.pmtiles
+status 0
+owned "$convert" --by-script a.mbtiles scripted.pmtiles
+status 1
+owned "$convert" --by-script --verify hashed.mbtiles wrong.pmtiles
+status 1
+"$real" u.mbtiles "pragma encoding = 'UTF-16'; create table metadata (name text, value text); create table tiles ($columns); $three"
+owned "$convert" u.mbtiles wide.pmtiles
+status 0
+holds same wide.pmtiles a.mbtiles
+if command -v python3 >/dev/null; then
+    owned "$bin/pmtiles-plain" --no-verify made.pmtiles plain.pmtiles
+    status 0
+    owned "$bin/pmtiles-plain" --no-verify made.pmtiles plain.pmtiles
+    status 1
+fi
+kill $held
+wait $held 2>/dev/null
+ends
+
+fresh 'pipes in the place of files'
+mkfifo pipe
+ln -s pipe link
+for path in pipe link; do
+    for words in 'verify' 'show' 'summary' 'hash'; do
+        # shellcheck disable=SC2086
+        run timeout 60 "$fatyngu" $words $path
+        [ "$got" != 0 ] && [ "$got" != 124 ] || problem="$problem; status $got of $words"
+    done
+    if command -v python3 >/dev/null; then
+        run timeout 60 "$fatyngu" show --map $path
+        status 4
+        says "$path: no regular file"
+        run timeout 60 "$fatyngu" serve $path --http 0
+        status 4
+        says "$path: no regular file"
+        run timeout 60 "$fatyngu" plain $path made.pmtiles
+        status 6
+        says "$path is no regular file"
+    fi
+done
+holds [ ! -e made.pmtiles ]
+ends
+
+if command -v python3 >/dev/null; then
+    fresh 'what pmtiles-plain replaces'
+    mkfifo pipe
+    ln -s pipe link
+    paths='pipe link folder'
+    mkdir folder
+    # a device of our own, since a device that is replaced is gone
+    ! mknod device c 1 3 2>/dev/null || paths="$paths device"
+    for path in $paths; do
+        for flag in '' --overwrite; do
+            # shellcheck disable=SC2086
+            run timeout 60 "$bin/pmtiles-plain" --no-verify $flag "$one_tile" $path
+            [ -n "$flag" ] && status 6 || status 1
+            says "^pmtiles-plain: $path is "
+        done
+    done
+    holds [ -p pipe ]
+    holds [ -L link ]
+    holds [ ! -e device -o -c device ]
+    holds nothing_in folder
+    ends
+
+    fresh 'names that end in a line feed'
+    end='
+'
+    echo mine >made.pmtiles
+    cp "$one_tile" "one.pmtiles$end"
+    echo no >one.pmtiles
+    run "$bin/pmtiles-plain" --no-verify "one.pmtiles$end" "made.pmtiles$end"
+    status 0
+    holds [ "$(cat made.pmtiles)" = mine ]
+    holds [ -s "made.pmtiles$end" ]
+    ln -s "made.pmtiles$end" link
+    run "$bin/pmtiles-plain" --no-verify --overwrite "$one_tile" link
+    status 0
+    holds [ "$(cat made.pmtiles)" = mine ]
+    holds [ -L link ]
+    set_of a.mbtiles "$three"
+    for way in '' --by-script; do
+        rm -f "set.pmtiles$end"
+        # shellcheck disable=SC2086
+        run "$convert" $way a.mbtiles "set.pmtiles$end"
+        status 0
+        holds same "set.pmtiles$end" a.mbtiles
+        holds [ ! -e set.pmtiles ]
+    done
+    ends
+fi
+
+# words of a name that echo would read as its own
+fresh 'names with backslashes'
+echo no >'a\c\n.mbtiles'
+for way in '' --by-script; do
+    # shellcheck disable=SC2086
+    run "$convert" $way 'a\c\n.mbtiles' made.pmtiles
+    status 3
+    holds grep -qF 'a\c\n.mbtiles is no SQLite database' err
+done
+run "$convert" 'b\c.mbtiles' made.pmtiles
+status 3
+holds grep -qF 'there is no file b\c.mbtiles' err
+ends
