@@ -14,5 +14,6 @@ mod RowLemmas
 mod ScanLemmas
 mod SearchLemmas
 mod StandingLemmas
+mod TellsLemmas
 mod ToldLemmas
 mod UnseenLemmas

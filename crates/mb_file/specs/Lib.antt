@@ -14,3 +14,4 @@ pub mod Scan
 pub mod SetTable
 pub mod Source
 pub mod Standing
+pub mod Told

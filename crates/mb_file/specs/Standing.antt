@@ -1,5 +1,7 @@
 -- The tables of a set that stands: stored in pages as trees, whose rows are those that any pages read as.
-use Rattle.std.specs.Prelude.{◌≡◌, ℕ, ◌^◌, ◌<◌, cond, List, [], map, None, Some, IfSome, Option, length}
+use Rattle.std.specs.Prelude.{◌≡◌, ℕ, ◌^◌, ◌<◌, nat_lt, Bool, true, false, cond, not, ◌&&◌, is_none, List, [], ◌∷◌, map, None, Some, IfSome, Option, length}
+use Rattle.std.specs.List.{list_all}
+use Rattle.std.specs.Option.{option_map}
 use Rattle.sqlite_btree.specs.Chain.{Layout}
 use Rattle.sqlite_btree.specs.Stored.{as_row, entries_at, IsLaidIn, IsTable}
 use Rattle.sqlite_disk.specs.declared.Disk.{Ghosts}
@@ -7,8 +9,12 @@ use Rattle.sqlite_format.specs.declared.kind.Tree.TheVariants.{Table}
 use Rattle.sqlite_pages.specs.PageMap.{PageMap}
 use Rattle.mb_store.specs.MemStore.{told_of}
 use Rattle.mb_store.specs.declared.mem_store.MemStore.{MemStore}
+use Rattle.mb_tables.specs.Described.{is_keyed}
+use Rattle.mb_tables.specs.Key.{clash}
+use Rattle.mb_tables.specs.Kind.{contents_of, schema_of, tile_table}
 use Rattle.mb_tables.specs.Table.{table_eq}
 use Rattle.mb_tables.specs.declared.cell.Cell.{Cell}
+use Rattle.mb_tables.specs.declared.kind.MbtType.{MbtType}
 use Rattle.mb_tables.specs.declared.table.TableName.{TableName}
 use Rattle.mb_tables.specs.declared.table.TableName.TheVariants.{Metadata}
 use Rattle.mb_file.specs.Cursor.{Stored}
@@ -57,3 +63,24 @@ abbrev pub rows_told : {D : Type 0} {g : Ghosts D} → Source D g → MemStore �
 rows_told source names tiles contents table =
     cond (table_eq table Metadata) ((told_of names).rows Metadata)
     (cond (table_eq tiles.table table) (shown source.pages.usable (pages_of source.pages) tiles) (contents_told source contents table))
+
+-- whether no two rows have one key
+abbrev pub are_apart : TableName → List (List Cell) → Bool
+are_apart table [] = true
+are_apart table (row ∷ rows) = list_all (λ other. not (clash table row other)) rows && are_apart table rows
+
+-- whether a table's rows may be told: it has rowids, its rows are fewer than a count can be, and no two have one key
+abbrev pub may_tell : {D : Type 0} {g : Ghosts D} → Source D g → Listing → Bool
+may_tell source listing =
+    is_none listing.of.columns.key && (nat_lt (length (shown source.pages.usable (pages_of source.pages) listing)) (2 ^ 64)
+    && are_apart listing.table (shown source.pages.usable (pages_of source.pages) listing))
+
+-- the tables of a set are those of its layout
+pub record AreOfLayout (layout : MbtType) (tiles : Listing) (contents : Option Listing) : Type 0 where
+  pub places : tiles.table ≡ tile_table layout
+  pub beside : option_map (λ listing. listing.table) contents ≡ option_map contents_of (schema_of layout)
+
+-- a store of metadata: one row a name, and no rows of another table
+pub record HoldsNames (names : MemStore) : Type 0 where
+  pub keyed : is_keyed (told_of names).descriptions Metadata ≡ true
+  pub others : (table : TableName) → table_eq table Metadata ≡ false → (told_of names).rows table ≡ []

@@ -22,11 +22,14 @@ mod paging;
 mod record;
 mod scan;
 mod set_table;
+mod sizing;
 mod source;
 mod store;
+mod true_disk;
 mod walk;
 
 pub use error::FileError;
 pub use fault::FileFault;
 pub use file::SetFile;
 pub use store::FileSet;
+pub use true_disk::TrueDisk;

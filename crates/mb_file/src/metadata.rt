@@ -1,9 +1,10 @@
 // The metadata of a set, which is held in memory.
-ghost use Rattle.std.specs.Prelude.{◌≡◌, true};
+ghost use Rattle.std.specs.Prelude.{◌≡◌, true, IfOk};
 ghost use Rattle.mb_store.specs.MemStore.{told_of};
 ghost use Rattle.mb_tables.specs.Described.{is_table};
 ghost use Rattle.sqlite_btree.specs.Check.{KeepsMarks};
 ghost use Rattle.mb_file.specs.FilePages.{GoesOn, pages_of};
+ghost use Rattle.mb_file.specs.Standing.{HoldsNames};
 
 use crate::FileError;
 use crate::catalog::Listed;
@@ -21,9 +22,12 @@ use sqlite_value::value::ValueRef;
 use std::alloc::Global;
 
 // Adds the row of a name and a value, where it is one and its name is new.
+#[tactic(auto, using(crate::proofs::MetadataLemmas::names_same, crate::proofs::MetadataLemmas::names_with))]
 fn taken(alloc: Global, names: &mut MemStore, answer: Answer<'_>) -> Result<Step, FileError>
     requires described { is_table (told_of names.old).descriptions TableName.Metadata ≡ true }
+    requires metadata { HoldsNames names.old }
     ensures described { is_table (told_of names.new).descriptions TableName.Metadata ≡ true }
+    ensures metadata { HoldsNames names.new }
 {
     let table = TableName::Metadata;
     let Some(row) = row_of(alloc, table, answer)? else {
@@ -56,7 +60,9 @@ fn values_of(
 // Adds the row of such values, where it is one and its name is new.
 fn add(alloc: Global, names: &mut MemStore, values: &Row) -> Result<Step, FileError>
     requires described { is_table (told_of names.old).descriptions TableName.Metadata ≡ true }
+    requires metadata { HoldsNames names.old }
     ensures described { is_table (told_of names.new).descriptions TableName.Metadata ≡ true }
+    ensures metadata { HoldsNames names.new }
 {
     let answer = Answer {
         first: values.get(0),
@@ -86,7 +92,9 @@ fn fill<D: Disk>(
     columns: &Columns,
 ) -> Result<(), FileError>
     requires described { is_table (told_of names.old).descriptions TableName.Metadata ≡ true }
+    requires metadata { HoldsNames names.old }
     ensures described { is_table (told_of names.new).descriptions TableName.Metadata ≡ true }
+    ensures metadata { HoldsNames names.new }
     ensures taken { source.new.taken ≡ source.old.taken }
     ensures kept { GoesOn source.old.pages source.new.pages }
     ensures pages { pages_of source.new.pages ≡ pages_of source.old.pages }
@@ -112,6 +120,8 @@ fn read_names<D: Disk>(
     listed: Option<&Listed>,
 ) -> Result<(), FileError>
     requires described { is_table (told_of names.old).descriptions TableName.Metadata ≡ true }
+    requires metadata { HoldsNames names.old }
+    ensures metadata { HoldsNames names.new }
     ensures marks { KeepsMarks source.old.taken.items source.new.taken.items }
     ensures kept { GoesOn source.old.pages source.new.pages }
     ensures pages { pages_of source.new.pages ≡ pages_of source.old.pages }
@@ -125,12 +135,13 @@ fn read_names<D: Disk>(
 }
 
 // The metadata of a set, none where its database lists no such table.
-#[tactic(auto, using(crate::proofs::MetadataLemmas::has_names))]
+#[tactic(auto, using(crate::proofs::MetadataLemmas::has_names, crate::proofs::MetadataLemmas::names_first))]
 pub(crate) fn metadata<D: Disk>(
     alloc: Global,
     source: &mut Source<D>,
     listed: Option<&Listed>,
 ) -> Result<MemStore, FileError>
+    ensures metadata { IfOk result HoldsNames }
     ensures marks { KeepsMarks source.old.taken.items source.new.taken.items }
     ensures kept { GoesOn source.old.pages source.new.pages }
     ensures pages { pages_of source.new.pages ≡ pages_of source.old.pages }

@@ -1,8 +1,11 @@
 // The parts of a set: its layout, its tables and its metadata, by the catalog.
 ghost use Rattle.std.specs.Prelude.{◌≡◌, IfOk, IfSome};
+ghost use Rattle.std.specs.Option.{option_map};
+ghost use Rattle.mb_tables.specs.Kind.{contents_of, schema_of};
 ghost use Rattle.sqlite_btree.specs.Check.{KeepsMarks, MarksFree};
 ghost use Rattle.mb_file.specs.FilePages.{GoesOn, IsTrusted, pages_of};
 ghost use Rattle.mb_file.specs.Opening.{AreOpened, IsOpened};
+ghost use Rattle.mb_file.specs.Standing.{AreOfLayout, HoldsNames};
 
 use crate::FileError;
 use crate::catalog::{Catalog, ROOT, read_catalog};
@@ -29,6 +32,7 @@ fn listing<D: Disk>(
     ensures opened { IsTrusted source.new.pages
         → MarksFree source.old.taken.items (pages_of source.old.pages)
         → IfOk result (IsOpened source.old.pages.usable (pages_of source.old.pages)) }
+    ensures table { IfOk result (λ listing. listing.table ≡ table) }
     ensures marks { KeepsMarks source.old.taken.items source.new.taken.items }
     ensures kept { GoesOn source.old.pages source.new.pages }
     ensures pages { pages_of source.new.pages ≡ pages_of source.old.pages }
@@ -57,6 +61,8 @@ fn contents<D: Disk>(
         → MarksFree source.old.taken.items (pages_of source.old.pages)
         → IfOk result (λ listing. IfSome listing
         (IsOpened source.old.pages.usable (pages_of source.old.pages))) }
+    ensures placed { IfOk result (λ contents. option_map (λ listing. listing.table) contents
+        ≡ option_map contents_of (schema_of layout)) }
     ensures marks { KeepsMarks source.old.taken.items source.new.taken.items }
     ensures kept { GoesOn source.old.pages source.new.pages }
     ensures pages { pages_of source.new.pages ≡ pages_of source.old.pages }
@@ -87,6 +93,9 @@ fn tables<D: Disk>(
     ensures opened { IsTrusted source.new.pages
         → MarksFree source.old.taken.items (pages_of source.old.pages)
         → IfOk result (AreOpened source.old.pages.usable (pages_of source.old.pages)) }
+    ensures placed { IfOk result
+        (λ parts. AreOfLayout parts.layout parts.tiles parts.contents) }
+    ensures names { IfOk result (λ parts. parts.names ≡ names) }
     ensures marks { KeepsMarks source.old.taken.items source.new.taken.items }
     ensures kept { GoesOn source.old.pages source.new.pages }
     ensures pages { pages_of source.new.pages ≡ pages_of source.old.pages }
@@ -107,6 +116,7 @@ fn names<D: Disk>(
     source: &mut Source<D>,
     catalog: &Catalog,
 ) -> Result<MemStore, FileError>
+    ensures metadata { IfOk result HoldsNames }
     ensures marks { KeepsMarks source.old.taken.items source.new.taken.items }
     ensures kept { GoesOn source.old.pages source.new.pages }
     ensures pages { pages_of source.new.pages ≡ pages_of source.old.pages }
@@ -128,6 +138,9 @@ fn listed_parts<D: Disk>(
     ensures opened { IsTrusted source.new.pages
         → MarksFree source.old.taken.items (pages_of source.old.pages)
         → IfOk result (AreOpened source.old.pages.usable (pages_of source.old.pages)) }
+    ensures placed { IfOk result
+        (λ parts. AreOfLayout parts.layout parts.tiles parts.contents) }
+    ensures metadata { IfOk result (λ parts. HoldsNames parts.names) }
     ensures marks { KeepsMarks source.old.taken.items source.new.taken.items }
     ensures kept { GoesOn source.old.pages source.new.pages }
     ensures pages { pages_of source.new.pages ≡ pages_of source.old.pages }
@@ -144,6 +157,9 @@ pub(crate) fn read_parts<D: Disk>(alloc: Global, source: &mut Source<D>) -> Resu
     ensures opened { IsTrusted source.new.pages
         → MarksFree source.old.taken.items (pages_of source.old.pages)
         → IfOk result (AreOpened source.old.pages.usable (pages_of source.old.pages)) }
+    ensures placed { IfOk result
+        (λ parts. AreOfLayout parts.layout parts.tiles parts.contents) }
+    ensures metadata { IfOk result (λ parts. HoldsNames parts.names) }
     ensures marks { KeepsMarks source.old.taken.items source.new.taken.items }
     ensures kept { GoesOn source.old.pages source.new.pages }
     ensures pages { pages_of source.new.pages ≡ pages_of source.old.pages }
@@ -162,6 +178,9 @@ pub(crate) fn open_parts<D: Disk + Drop>(
 ) -> Result<(Source<D>, Parts), FileError>
     ensures opened { IfOk result (λ read. IsTrusted read.0.pages
         → AreOpened read.0.pages.usable (pages_of read.0.pages) read.1) }
+    ensures placed { IfOk result
+        (λ read. AreOfLayout read.1.layout read.1.tiles read.1.contents) }
+    ensures metadata { IfOk result (λ read. HoldsNames read.1.names) }
 {
     let secret = files.log.key();
     let pages = FilePages::open(alloc, files, cache_pages)?;

@@ -1,25 +1,26 @@
 // A set of a file as a store.
-ghost use Rattle.std.specs.Prelude.{◌≡◌, ◌≤◌, [], false, true, All, Err, IfOk, IfSome, IsErrOf, drop, find, length, take};
-ghost use Rattle.mb_store.specs.Kept.{FaultsCounted};
+ghost use Rattle.std.specs.Prelude.{◌≡◌, ◌≤◌, true, All, Err, IfOk, IfSome, IsErrOf, drop, find, length, take};
+ghost use Rattle.mb_store.specs.Kept.{FaultsCounted, Keeps, ReadsOnly};
 ghost use Rattle.mb_tables.specs.Key.{has_key};
 ghost use Rattle.mb_tables.specs.Schema.{set_tables};
 ghost use Rattle.mb_tables.specs.Table.{width};
 ghost use Rattle.mb_file.specs.FilePages.{IsTrusted};
 ghost use Rattle.mb_file.specs.Listing.{AreApart};
-ghost use Rattle.mb_file.specs.Standing.{AllStand, IsShown, rows_told};
+ghost use Rattle.mb_file.specs.Standing.{AllStand, AreOfLayout, HoldsNames, IsShown, rows_told};
 
 use crate::fault::Faults;
 use crate::listing::Listing;
 use crate::opening::{Parts, open_parts};
 use crate::source::Source;
-use crate::{FileError, FileFault};
+use crate::{FileError, FileFault, TrueDisk};
 use mb_reading::LeftOut;
 use mb_store::{Changes, MemStore, StoreError, TileStore};
 use mb_tables::{MbtType, Row, RowKey, TableDesc, TableName, set_tables};
 use sqlite_disk::{Disk, Files};
 use std::alloc::Global;
 
-/// A tile set that is read from the pages of a database and its log. It tells no tables.
+/// A tile set that is read from the pages of a database and its log. Over a disk whose answers are true it tells the
+/// tables of its layout, with the rows that its pages show.
 ///
 /// Its rows are those of the tables of its layout, in the order of their rowids, or of their key where a table is
 /// WITHOUT ROWID; those of tiles that have no place of zoom 0 to 30 are left out and counted. Of its tables nothing is
@@ -28,13 +29,15 @@ use std::alloc::Global;
 #[derive(Drop)]
 pub struct FileSet<D: Disk> {
     alloc: Global,
-    source: Source<D>,
+    pub(crate) source: Source<D>,
     layout: MbtType,
-    names: MemStore,
-    tiles: Listing,
-    contents: Option<Listing>,
+    pub(crate) names: MemStore,
+    pub(crate) tiles: Listing,
+    pub(crate) contents: Option<Listing>,
     faults: Faults,
     ghost stands: { ∥ AllStand source tiles contents ∥₁ },
+    ghost placed: { AreOfLayout layout tiles contents },
+    ghost named: { HoldsNames names },
 }
 
 impl<D: Disk + Drop> FileSet<D> {
@@ -57,9 +60,13 @@ impl<D: Disk + Drop> FileSet<D> {
 }
 
 impl<D: Disk> FileSet<D> {
+    ghost use Rattle.mb_file.specs.Told.{IsSameSet};
+
     // The set of its parts.
     fn of_parts(alloc: Global, source: Source<D>, parts: Parts) -> FileSet<D>
-        requires { AllStand source parts.tiles parts.contents }
+        requires stand { AllStand source parts.tiles parts.contents }
+        requires placed { AreOfLayout parts.layout parts.tiles parts.contents }
+        requires metadata { HoldsNames parts.names }
     {
         let Parts {
             layout,
@@ -99,31 +106,6 @@ impl<D: Disk> FileSet<D> {
         self.faults.last
     }
 
-    // How many rows a table has.
-    fn counted(&mut self, alloc: Global, table: TableName) -> Result<u64, FileFault>
-        ensures shown { IsTrusted self.new.source.pages → IsShown self.old.source self.old.tiles
-            → IfSome self.old.contents (IsShown self.old.source)
-            → IfOk result (λ count. count ≡ length (rows_told self.old.source self.old.names
-            self.old.tiles self.old.contents table)) }
-        ensures faults { self.new.faults ≡ self.old.faults }
-    {
-        if table == TableName::Metadata {
-            return Ok(self.names.count_rows(table)?);
-        }
-        if self.tiles.is_of(table) {
-            return self.tiles.count(alloc, &mut self.source);
-        }
-        match &mut self.contents {
-            Some(contents) => {
-                if contents.is_of(table) {
-                    return contents.count(alloc, &mut self.source);
-                }
-                Ok(0)
-            }
-            None => Ok(0),
-        }
-    }
-
     // The rows of a table from a place on, at most so many.
     fn page(
         &mut self,
@@ -138,6 +120,7 @@ impl<D: Disk> FileSet<D> {
             self.old.names self.old.tiles self.old.contents table))) }
         ensures widths { IfOk result (λ rows. All (λ row. length row ≡ width table) rows.items) }
         ensures limit { IfOk result (λ rows. length rows.items ≤ limit) }
+        ensures same { IsSameSet self.old self.new }
         ensures faults { self.new.faults ≡ self.old.faults }
     {
         if table == TableName::Metadata {
@@ -173,6 +156,7 @@ impl<D: Disk> FileSet<D> {
         ensures widths { IfOk result (λ row. IfSome row (λ row. length row ≡ width table)) }
         ensures keyed { IfOk result
             (λ row. IfSome row (λ row. has_key table key.now row ≡ true)) }
+        ensures same { IsSameSet self.old self.new }
         ensures faults { self.new.faults ≡ self.old.faults }
     {
         if table == TableName::Metadata {
@@ -191,28 +175,14 @@ impl<D: Disk> FileSet<D> {
             None => Ok(None),
         }
     }
-
-    // The bytes of all cells.
-    fn sized(&mut self, alloc: Global) -> Result<u64, FileFault>
-        ensures faults { self.new.faults ≡ self.old.faults }
-    {
-        let names = self.names.live_size()?;
-        let tiles = self.tiles.size(alloc, &mut self.source)?;
-        let contents = match &mut self.contents {
-            Some(contents) => contents.size(alloc, &mut self.source)?,
-            None => 0,
-        };
-        Ok(names.saturating_add(tiles).saturating_add(contents))
-    }
 }
 
-impl<D: Disk> TileStore for FileSet<D> {
-    ghost use Rattle.std.proofs.lemmas.Bool.{false≢true};
-    ghost use Rattle.mb_store.specs.Store.{no_rows};
+impl<D: TrueDisk> TileStore for FileSet<D> {
+    ghost use Rattle.mb_file.specs.Told.{sound_by_set, tells_by_set, told_by_set};
 
-    ghost tells = { λ _. false };
+    ghost tells = { tells_by_set D.TrueDisk.is_true };
 
-    ghost told = { λ _. no_rows [] };
+    ghost told = { told_by_set };
 
     ghost faults = { λ s. s.faults.count };
 
@@ -222,8 +192,10 @@ impl<D: Disk> TileStore for FileSet<D> {
     fn describe(&mut self, alloc: Global) -> Result<Vec<TableDesc>, StoreError>
         ensures described { IfOk result
             (λ tables. tables.items ≡ set_tables self.old.layout) }
-        ensures layout { self.new.layout ≡ self.old.layout }
-        ensures faults { self.old.faults.count ≤ self.new.faults.count }
+        ensures answer { IfOk result
+            (λ tables. tables.items ≡ (told_by_set self.old).descriptions) }
+        ensures kept { ReadsOnly told_by_set (tells_by_set D.TrueDisk.is_true)
+            (λ s. s.faults.count) (λ _. ⊥) self.old self.new }
         ensures fault { FaultsCounted (λ s. s.faults.count) self.old self.new result
             StoreError.Fault }
     {
@@ -257,10 +229,13 @@ impl<D: Disk> TileStore for FileSet<D> {
         table: TableName,
         key: &RowKey,
     ) -> Result<Option<Row>, StoreError>
+        ensures answer { tells_by_set D.TrueDisk.is_true self.old ≡ true → IfOk result
+            (λ row. row ≡ find (has_key table key.now) ((told_by_set self.old).rows table)) }
         ensures widths { IfOk result (λ row. IfSome row (λ row. length row ≡ width table)) }
         ensures keyed { IfOk result
             (λ row. IfSome row (λ row. has_key table key.now row ≡ true)) }
-        ensures faults { self.old.faults.count ≤ self.new.faults.count }
+        ensures kept { ReadsOnly told_by_set (tells_by_set D.TrueDisk.is_true)
+            (λ s. s.faults.count) (λ _. ⊥) self.old self.new }
         ensures fault { FaultsCounted (λ s. s.faults.count) self.old self.new result
             StoreError.Fault }
     {
@@ -271,7 +246,9 @@ impl<D: Disk> TileStore for FileSet<D> {
     /// A fault: the set is only read.
     fn create(&mut self, _alloc: Global, _tables: &[TableDesc]) -> Result<(), StoreError>
         ensures refused { result ≡ Err StoreError.Fault }
-        ensures faults { self.old.faults.count ≤ self.new.faults.count }
+        ensures told { told_by_set self.new ≡ told_by_set self.old }
+        ensures kept { Keeps (tells_by_set D.TrueDisk.is_true) (λ s. s.faults.count)
+            (λ _. ⊥) self.old self.new }
         ensures fault { FaultsCounted (λ s. s.faults.count) self.old self.new result
             StoreError.Fault }
     {
@@ -281,7 +258,9 @@ impl<D: Disk> TileStore for FileSet<D> {
     /// A fault: the set is only read.
     fn commit(&mut self, _alloc: Global, _changes: &Changes) -> Result<(), StoreError>
         ensures refused { result ≡ Err StoreError.Fault }
-        ensures faults { self.old.faults.count ≤ self.new.faults.count }
+        ensures told { told_by_set self.new ≡ told_by_set self.old }
+        ensures kept { Keeps (tells_by_set D.TrueDisk.is_true) (λ s. s.faults.count)
+            (λ _. ⊥) self.old self.new }
         ensures fault { FaultsCounted (λ s. s.faults.count) self.old self.new result
             StoreError.Fault }
     {
@@ -295,5 +274,5 @@ impl<D: Disk> TileStore for FileSet<D> {
         self.faults.counted(answer)
     }
 
-    ghost sound = { λ _ tells. absurd (false≢true tells) };
+    ghost sound = { λ set tells. sound_by_set set _ tells };
 }

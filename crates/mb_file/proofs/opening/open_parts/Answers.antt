@@ -12,4 +12,6 @@ returns-in-Ok g c = record {
       let same = c.in_ok-source.ensures.pages in
       let free = subst (λ p. MarksFree c.in_ok-source.source.taken.items (pages_of p)) (sym same) (c.in_ok-source.ensures.live c.in_ok-pages.ensures.ready (subst (λ p. IsTrusted p) same clean)) in
       subst₂ (λ (u : ℕ) (p : PageMap). AreOpened u p c.in-Ok.parts) (sym c.read_parts.ensures.kept.same_size) (sym c.read_parts.ensures.pages) (c.in-Ok.ensures.opened trusted free);
+  placed = c.in-Ok.ensures.placed;
+  metadata = c.in-Ok.ensures.metadata;
 }

@@ -1,5 +1,6 @@
 use Rattle.std.proofs.Common.{IfOk, IfSome, length, List, Option, subst, [], ◌∙◌, rules, sym, ap, refl, ◌≡◌}
 use Rattle.mb_file.proofs.StandingLemmas.{contents_called, tiles_called}
+use Rattle.mb_file.proofs.TellsLemmas.{others_called, places_called}
 use Rattle.mb_file.specs.declared.listing.Listing.{Listing}
 use Rattle.mb_tables.specs.Table.{table_eq}
 use Rattle.mb_tables.specs.declared.cell.Cell.{Cell}
@@ -14,6 +15,8 @@ invariant_of-self-then-is_of g c = record {
   stands =
       tiles_called c.args.self.now.source c.count.new.source c.count.ensures.kept c.count.ensures.pages c.count.ensures.secret c.args.self.now.tiles c.count.new.self c.args.self.now.contents c.args.self.now.tiles.table refl (ap (λ (l : Listing). l.of) c.count.ensures.same) (ap (λ (l : Listing). l.table) c.count.ensures.same)
       (λ trusted layout rows laid stored listed. (c.count.ensures.lists trusted layout rows laid stored listed).0) c.args.self.now.stands;
+  placed = places_called c.args.self.now.layout c.args.self.now.tiles c.count.new.self c.args.self.now.contents (ap (λ (l : Listing). l.table) c.count.ensures.same) c.args.self.now.placed;
+  named = c.args.self.now.named;
 }
 
 pub invariant_of-self-then-is_of-2 : goal.invariant_of-self-then-is_of-2
@@ -21,6 +24,8 @@ invariant_of-self-then-is_of-2 g c = record {
   stands =
       contents_called c.args.self.now.source c.count-then-is_of-2.new.source c.count-then-is_of-2.ensures.kept c.count-then-is_of-2.ensures.pages c.count-then-is_of-2.ensures.secret c.args.self.now.tiles c.in-Some.contents c.count-then-is_of-2.new.self c.args.self.now.contents c.in-Some.contents.table c.in-Some.is refl (ap (λ (l : Listing). l.of) c.count-then-is_of-2.ensures.same) (ap (λ (l : Listing). l.table) c.count-then-is_of-2.ensures.same)
       (λ trusted layout rows laid stored listed. (c.count-then-is_of-2.ensures.lists trusted layout rows laid stored listed).0) c.args.self.now.stands;
+  placed = others_called c.args.self.now.layout c.args.self.now.tiles c.in-Some.contents c.count-then-is_of-2.new.self c.args.self.now.contents c.in-Some.is (ap (λ (l : Listing). l.table) c.count-then-is_of-2.ensures.same) c.args.self.now.placed;
+  named = c.args.self.now.named;
 }
 
 pub returns-then-is_of-clause-shown : goal.returns-then-is_of-clause-shown

@@ -2,6 +2,7 @@ use Rattle.std.proofs.Common.{ap, IfOk, List, Option, [], ◌∙◌, IfSome, rul
 use Rattle.std.specs.Prelude.{find}
 use Rattle.mb_tables.specs.Key.{has_key}
 use Rattle.mb_file.proofs.StandingLemmas.{contents_called, tiles_called}
+use Rattle.mb_file.proofs.TellsLemmas.{others_called, places_called}
 use Rattle.mb_file.proofs.FindLemmas.{found_has}
 use Rattle.mb_tables.specs.Table.{table_eq}
 use Rattle.mb_tables.specs.declared.cell.Cell.{Cell}
@@ -21,6 +22,8 @@ invariant_of-self-then-is_of g c = record {
   stands =
       tiles_called c.args.self.now.source c.find-then-is_of.new.source c.find-then-is_of.ensures.kept c.find-then-is_of.ensures.pages c.find-then-is_of.ensures.secret c.args.self.now.tiles c.find-then-is_of.new.self c.args.self.now.contents c.args.table (search rules) c.find-then-is_of.ensures.of c.find-then-is_of.ensures.table
       (λ trusted layout rows laid stored listed. (c.find-then-is_of.ensures.lists trusted layout rows laid stored listed).0) c.args.self.now.stands;
+  placed = places_called c.args.self.now.layout c.args.self.now.tiles c.find-then-is_of.new.self c.args.self.now.contents c.find-then-is_of.ensures.table c.args.self.now.placed;
+  named = c.args.self.now.named;
 }
 
 pub invariant_of-self-then-is_of-2 : goal.invariant_of-self-then-is_of-2
@@ -28,6 +31,8 @@ invariant_of-self-then-is_of-2 g c = record {
   stands =
       contents_called c.args.self.now.source c.find-then-is_of-2.new.source c.find-then-is_of-2.ensures.kept c.find-then-is_of-2.ensures.pages c.find-then-is_of-2.ensures.secret c.args.self.now.tiles c.in-Some.contents c.find-then-is_of-2.new.self c.args.self.now.contents c.args.table c.in-Some.is (search rules) c.find-then-is_of-2.ensures.of c.find-then-is_of-2.ensures.table
       (λ trusted layout rows laid stored listed. (c.find-then-is_of-2.ensures.lists trusted layout rows laid stored listed).0) c.args.self.now.stands;
+  placed = others_called c.args.self.now.layout c.args.self.now.tiles c.in-Some.contents c.find-then-is_of-2.new.self c.args.self.now.contents c.in-Some.is c.find-then-is_of-2.ensures.table c.args.self.now.placed;
+  named = c.args.self.now.named;
 }
 
 pub returns-then-is_of-clause-shown : goal.returns-then-is_of-clause-shown

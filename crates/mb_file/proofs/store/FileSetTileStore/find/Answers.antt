@@ -1,5 +1,17 @@
+use Rattle.std.proofs.Common.{refl}
 use Rattle.mb_file.proofs.FaultLemmas.{counted_ok}
+use Rattle.mb_file.proofs.TellsLemmas.{may_by, reads_after, trusted}
+use Rattle.mb_file.specs.Told.{all_apart, contents_shown, tiles_shown, told_by_set}
 use Rattle.mb_file.proofs.store.FileSetTileStore.find.Goals as goal
 
 pub returns-clause-keyed : goal.returns-clause-keyed
 returns-clause-keyed g c = counted_ok _ _ _ _ _ c.counted.ensures.counted c.found-answer.ensures.keyed
+
+pub returns-clause-answer : goal.returns-clause-answer
+unfolding told_by_set
+returns-clause-answer g c = λ tells.
+    let may = may_by g.D.TrueDisk.is_true c.args.self.now tells in
+    counted_ok _ _ _ _ _ c.counted.ensures.counted (c.found-answer.ensures.shown (trusted g.D.TrueDisk.is_true g.met.D.TrueDisk.clean c.args.self.now tells c.found-answer.new.self.source.pages) (tiles_shown c.args.self.now may) (contents_shown c.args.self.now may) (all_apart c.args.self.now may c.args.table))
+
+pub returns-clause-kept : goal.returns-clause-kept
+returns-clause-kept g c = reads_after g.D.TrueDisk.is_true c.args.self.now c.found-answer.new.self _ c.found-answer.ensures.same c.found-answer.ensures.faults c.counted.ensures.later refl refl refl refl refl
