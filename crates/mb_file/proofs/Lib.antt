@@ -1,3 +1,4 @@
+mod CatalogLemmas
 mod CursorLemmas
 mod FaultLemmas
 mod FindLemmas
@@ -6,6 +7,7 @@ mod MarkLemmas
 mod MetadataLemmas
 mod NotedLemmas
 mod NumberLemmas
+mod OpenedLemmas
 mod OpeningLemmas
 mod OrderLemmas
 mod PageLemmas

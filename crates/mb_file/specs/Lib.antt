@@ -1,3 +1,5 @@
+pub mod Catalog
+pub mod Columns
 pub mod Course
 pub mod Cursor
 pub mod Errors
@@ -5,10 +7,13 @@ pub mod Faults
 pub mod FilePages
 pub mod KeyOrder
 pub mod Listing
+pub mod Metadata
 pub mod Noted
 pub mod Numbers
+pub mod Opened
 pub mod Opening
 pub mod Record
+pub mod Recovered
 pub mod RowAt
 pub mod Scan
 pub mod SetTable

@@ -1,5 +1,7 @@
 // Where a table has the columns of its set.
-ghost use Rattle.std.specs.Prelude.{◌≡◌};
+ghost use Rattle.std.specs.Prelude.{◌≡◌, IfOk, IfSome, None, Ok, map};
+ghost use Rattle.sqlite_resolve.specs.Compile.{table_defined_by};
+ghost use Rattle.mb_file.specs.Columns.{AreColumns, AreColumnsBy, IsDefined, IsNumbered, column_at, column_of, key_columns, names_of};
 
 use crate::FileError;
 use crate::keyed::{before_without_rowid, key_of, place_in_record};
@@ -45,7 +47,10 @@ struct Made {
 }
 
 // The names of the columns of a table, in the order of its set.
-fn names(table: TableName) -> &'static [&'static str] {
+#[tactic(auto, unfolding(crate::specs::Columns::names_of))]
+fn names(table: TableName) -> &'static [&'static str]
+    ensures { map (λ name. name.now) result.now ≡ names_of table }
+{
     match table {
         TableName::Tiles => &["zoom_level", "tile_column", "tile_row", "tile_data"],
         TableName::TilesWithHash => {
@@ -66,34 +71,42 @@ fn names(table: TableName) -> &'static [&'static str] {
     }
 }
 
-// The place of a column by its name, in any ASCII case.
-fn position(made: &schema::Table, name: &str) -> Option<usize> {
-    made.columns.as_slice().iter().position(|column| column
-        .name
-        .as_slice()
-        .eq_ignore_ascii_case(name.as_bytes()))
-}
-
-// A column by its name, None where the table has none.
-fn column_of(alloc: Global, made: &Made, name: &str) -> Result<Option<Column>, FileError> {
-    let table = &made.table;
-    let Some(number) = position(table, name) else {
-        return Ok(None);
-    };
-    let Some(found) = table.columns.get(number) else {
-        return Ok(None);
-    };
+// A column by its number in the table.
+fn column_at(
+    alloc: Global,
+    made: &Made,
+    number: usize,
+    found: &schema::Column,
+) -> Result<Column, FileError>
+    ensures { IfOk result
+        (λ column. column ≡ column_at made.now.table (key_columns made.now) number found.now) }
+{
     let (at, is_key) = match &made.key {
         Some(key) => (place_in_record(key.as_slice(), number), false),
-        None => (number, table.key == Some(number)),
+        None => (number, made.table.key == Some(number)),
     };
     let default = own_value(alloc, lend_value(&found.default))?;
-    Ok(Some(Column {
+    Ok(Column {
         at,
         is_key,
         is_real: found.kind == Kind::Real,
         default,
-    }))
+    })
+}
+
+// A column by its name, None where the table has none.
+#[tactic(auto, unfolding(crate::specs::Columns::column_of))]
+fn column_of(alloc: Global, made: &Made, name: &str) -> Result<Option<Column>, FileError>
+    ensures { IfOk result
+        (λ column. column ≡ column_of made.now.table (key_columns made.now) name.now) }
+{
+    let Some(number) = made.table.column_named(name.as_bytes()) else {
+        return Ok(None);
+    };
+    let Some(found) = made.table.columns.get(number) else {
+        return Ok(None);
+    };
+    Ok(Some(column_at(alloc, made, number, found)?))
 }
 
 // A column of a table by its number in the set, None where the set has fewer.
@@ -102,7 +115,9 @@ fn numbered(
     made: &Made,
     table: TableName,
     number: usize,
-) -> Result<Option<Column>, FileError> {
+) -> Result<Option<Column>, FileError>
+    ensures { IfOk result (IsNumbered made.now.table (key_columns made.now) table number) }
+{
     let Some(name) = names(table).get(number) else {
         return Ok(None);
     };
@@ -113,7 +128,9 @@ fn numbered(
 }
 
 // The table that a text makes, None where the kit doesn't understand it.
-fn defined(alloc: Global, text: &[u8]) -> Result<Option<schema::Table>, FileError> {
+fn defined(alloc: Global, text: &[u8]) -> Result<Option<schema::Table>, FileError>
+    ensures { IfOk result (IsDefined text.now) }
+{
     match define_table(alloc, text) {
         Ok(made) => Ok(Some(made)),
         Err(CompileError::OutOfMemory | CompileError::Parse(ParseError::OutOfMemory)) => {
@@ -124,7 +141,9 @@ fn defined(alloc: Global, text: &[u8]) -> Result<Option<schema::Table>, FileErro
 }
 
 // The table WITHOUT ROWID that a text makes, None where it or its key isn't understood.
-fn keyed(alloc: Global, table: TableName, text: &[u8]) -> Result<Option<Made>, FileError> {
+fn keyed(alloc: Global, table: TableName, text: &[u8]) -> Result<Option<Made>, FileError>
+    ensures { IfOk result (λ made. IfSome made (λ made. ¬ (made.key ≡ None))) }
+{
     let Some(text) = before_without_rowid(text) else {
         return Ok(None);
     };
@@ -141,7 +160,9 @@ fn keyed(alloc: Global, table: TableName, text: &[u8]) -> Result<Option<Made>, F
 }
 
 // The table that a text makes.
-fn made_by(alloc: Global, table: TableName, text: &[u8]) -> Result<Made, FileError> {
+fn made_by(alloc: Global, table: TableName, text: &[u8]) -> Result<Made, FileError>
+    ensures { IfOk result (λ made. made.key ≡ None → table_defined_by text.now ≡ Ok made.table) }
+{
     if let Some(made) = defined(alloc, text)? {
         return Ok(Made {
             table: made,
@@ -154,26 +175,32 @@ fn made_by(alloc: Global, table: TableName, text: &[u8]) -> Result<Made, FileErr
     }
 }
 
-// The columns of a table by the text that makes it.
-pub(crate) fn columns_by(
-    alloc: Global,
-    table: TableName,
-    text: &[u8],
-) -> Result<Columns, FileError> {
-    let made = made_by(alloc, table, text)?;
+// The columns of a table that a text makes.
+fn columns_of(alloc: Global, table: TableName, made: &Made) -> Result<Columns, FileError>
+    ensures { IfOk result (AreColumns made.now.table (key_columns made.now) table) }
+{
     let key = made.key.as_ref().map(|key| key.len());
-    let Some(first) = numbered(alloc, &made, table, 0)? else {
+    let Some(first) = numbered(alloc, made, table, 0)? else {
         return Err(FileError::Column { table });
     };
-    let Some(second) = numbered(alloc, &made, table, 1)? else {
+    let Some(second) = numbered(alloc, made, table, 1)? else {
         return Err(FileError::Column { table });
     };
     Ok(Columns {
         key,
         first,
         second,
-        third: numbered(alloc, &made, table, 2)?,
-        fourth: numbered(alloc, &made, table, 3)?,
-        fifth: numbered(alloc, &made, table, 4)?,
+        third: numbered(alloc, made, table, 2)?,
+        fourth: numbered(alloc, made, table, 3)?,
+        fifth: numbered(alloc, made, table, 4)?,
     })
+}
+
+// The columns of a table by the text that makes it.
+pub(crate) fn columns_by(alloc: Global, table: TableName, text: &[u8]) -> Result<Columns, FileError>
+    ensures columns { IfOk result
+        (λ columns. columns.key ≡ None → AreColumnsBy table text.now columns) }
+{
+    let made = made_by(alloc, table, text)?;
+    columns_of(alloc, table, &made)
 }

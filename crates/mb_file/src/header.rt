@@ -1,6 +1,7 @@
 // The header of a database: the first 100 bytes of its first page (SQLite's fileformat2, section 1.3).
-ghost use Rattle.std.specs.Prelude.{◌≤◌, IfOk, length};
+ghost use Rattle.std.specs.Prelude.{◌≡◌, ◌≤◌, IfOk, length};
 ghost use Rattle.sqlite_pages.specs.PageMap.{IsUsableSize};
+ghost use Rattle.mb_file.specs.Recovered.{used_by};
 
 use crate::FileError;
 use sqlite_format::bytes::get_u32;
@@ -43,6 +44,7 @@ pub(crate) fn states_count(page: &[u8], count: u32) -> bool {
 // How many bytes of a page are used, by the first page. The rest of each page is reserved.
 pub(crate) fn usable_size(page: &[u8]) -> Result<usize, FileError>
     ensures used { IfOk result (λ size. size ≤ length page.now) }
+    ensures reserved { IfOk result (λ size. size ≡ used_by page.now (length page.now)) }
     ensures usable { IfOk result IsUsableSize }
 {
     if page.len() < 512 || page.len() > 65_536 || !has_form(page) {

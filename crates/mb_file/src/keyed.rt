@@ -1,5 +1,7 @@
 // Tables WITHOUT ROWID: which of them are understood, and where their records have the columns.
-ghost use Rattle.std.specs.Prelude.{◌≡◌};
+ghost use Rattle.std.specs.Prelude.{◌≡◌, ◌==◌, filter, length, nat_lt};
+ghost use Rattle.std.specs.List.{position_from};
+ghost use Rattle.mb_file.specs.Columns.{place_in_record};
 
 use crate::FileError;
 use mb_tables::TableName;
@@ -117,13 +119,41 @@ pub(crate) fn key_of(
     }
 }
 
+// Whether a part of a key is a column.
+fn is_column(part: usize, column: usize) -> bool
+    ensures { result ≡ (part == column) }
+{
+    part == column
+}
+
+// Whether it is a later one.
+fn is_later(part: usize, column: usize) -> bool
+    ensures { result ≡ nat_lt column part }
+{
+    part > column
+}
+
+// Which part of a key is a column.
+fn part_of(key: &[usize], column: usize) -> Option<usize>
+    ensures { result ≡ position_from (λ part. part == column) 0 key.now }
+{
+    key.iter().position(|part| is_column(*part, column))
+}
+
+// How many parts of a key are later columns.
+fn count_later(key: &[usize], column: usize) -> usize
+    ensures { result ≡ length (filter (nat_lt column) key.now) }
+{
+    key.iter().filter(|part| is_later(**part, column)).count()
+}
+
 // Where the records of a table with such a key have a column: those of the key come first, then the others in order.
-pub(crate) fn place_in_record(key: &[usize], column: usize) -> usize {
-    match key.iter().position(|part| *part == column) {
+#[tactic(auto, unfolding(crate::specs::Columns::place_in_record))]
+pub(crate) fn place_in_record(key: &[usize], column: usize) -> usize
+    ensures { result ≡ place_in_record key.now column }
+{
+    match part_of(key, column) {
         Some(place) => place,
-        None => {
-            let later = key.iter().filter(|part| **part > column).count();
-            column.saturating_add(later)
-        }
+        None => column.saturating_add(count_later(key, column)),
     }
 }

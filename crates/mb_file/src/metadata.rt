@@ -1,9 +1,18 @@
 // The metadata of a set, which is held in memory.
-ghost use Rattle.std.specs.Prelude.{◌≡◌, true, IfOk};
+ghost use Rattle.std.specs.Prelude.{◌≡◌, ◌++◌, [], IfOk, OnOk, length, not, option_map, true};
+ghost use Rattle.std.specs.List.{cons_option};
+ghost use Rattle.std.specs.Option.{option_copied};
+ghost use Rattle.mb_reading.specs.Answer.{answer_row};
+ghost use Rattle.mb_reading.specs.Filling.{noted, step_of, taken, with_new};
 ghost use Rattle.mb_store.specs.MemStore.{told_of};
+ghost use Rattle.mb_store.specs.Store.{is_duplicate};
 ghost use Rattle.mb_tables.specs.Described.{is_table};
-ghost use Rattle.sqlite_btree.specs.Check.{KeepsMarks};
-ghost use Rattle.mb_file.specs.FilePages.{GoesOn, pages_of};
+ghost use Rattle.mb_tables.specs.Table.{width};
+ghost use Rattle.sqlite_btree.specs.Check.{KeepsMarks, MarksFree};
+ghost use Rattle.sqlite_value.specs.Value.{owned};
+ghost use Rattle.sqlite_value.specs.declared.value.Value.TheVariants.{Text};
+ghost use Rattle.mb_file.specs.FilePages.{GoesOn, IsTrusted, pages_of};
+ghost use Rattle.mb_file.specs.Metadata.{AreNames, Fills, held_in, name_in, no_names, spelling, three_of};
 ghost use Rattle.mb_file.specs.Standing.{HoldsNames};
 
 use crate::FileError;
@@ -13,7 +22,7 @@ use crate::columns::{Columns, columns_by};
 use crate::course::Course;
 use crate::record::{answer_of, spelled};
 use crate::source::Source;
-use mb_reading::{Answer, Step, row_of};
+use mb_reading::{Answer, LeftOut, Step, row_of};
 use mb_store::{MbtError, MbtType, MemStore};
 use mb_tables::TableName;
 use sqlite_disk::Disk;
@@ -21,47 +30,85 @@ use sqlite_value::row::Row;
 use sqlite_value::value::ValueRef;
 use std::alloc::Global;
 
-// Adds the row of a name and a value, where it is one and its name is new.
+// Adds a row, where its name is new, and says whether it was.
 #[tactic(auto, using(crate::proofs::MetadataLemmas::names_same, crate::proofs::MetadataLemmas::names_with))]
-fn taken(alloc: Global, names: &mut MemStore, answer: Answer<'_>) -> Result<Step, FileError>
+fn push(names: &mut MemStore, row: mb_tables::Row) -> Result<bool, FileError>
     requires described { is_table (told_of names.old).descriptions TableName.Metadata ≡ true }
+    requires wide { length row ≡ width TableName.Metadata }
     requires metadata { HoldsNames names.old }
-    ensures described { is_table (told_of names.new).descriptions TableName.Metadata ≡ true }
+    ensures told { OnOk result
+        (told_of names.new ≡ with_new TableName.Metadata row (told_of names.old)) }
+    ensures new { IfOk result
+        (λ is_new. is_new ≡ not (is_duplicate (told_of names.old) TableName.Metadata row)) }
+    ensures described { (told_of names.new).descriptions ≡ (told_of names.old).descriptions }
     ensures metadata { HoldsNames names.new }
 {
-    let table = TableName::Metadata;
-    let Some(row) = row_of(alloc, table, answer)? else {
-        return Ok(Step::Odd);
-    };
-    match names.push_row(table, row) {
-        Ok(()) => Ok(Step::Added),
-        Err(MbtError::DuplicateRow(_)) => Ok(Step::Repeated),
+    match names.push_row(TableName::Metadata, row) {
+        Ok(()) => Ok(true),
+        Err(MbtError::DuplicateRow(_)) => Ok(false),
         Err(_) => Err(FileError::OutOfMemory),
     }
 }
 
+// Adds the row of a name and a value, where it is one and its name is new.
+fn taken(alloc: Global, names: &mut MemStore, answer: Answer<'_>) -> Result<Step, FileError>
+    requires described { is_table (told_of names.old).descriptions TableName.Metadata ≡ true }
+    requires metadata { HoldsNames names.old }
+    ensures told { OnOk result (told_of names.new
+        ≡ taken TableName.Metadata (told_of names.old) (answer_row answer.entry)) }
+    ensures step { IfOk result (λ step. step
+        ≡ step_of TableName.Metadata (told_of names.old) (answer_row answer.entry)) }
+    ensures described { (told_of names.new).descriptions ≡ (told_of names.old).descriptions }
+    ensures metadata { HoldsNames names.new }
+{
+    let Some(row) = row_of(alloc, TableName::Metadata, answer)? else {
+        return Ok(Step::Odd);
+    };
+    if push(names, row)? {
+        Ok(Step::Added)
+    } else {
+        Ok(Step::Repeated)
+    }
+}
+
+// Adds the text that SQLite spells a number in.
+fn push_spelled(values: &mut Row, value: ValueRef<'_>) -> Result<(), FileError>
+    ensures { OnOk result (values.new
+        ≡ values.old ++ cons_option (option_map Text (spelling (owned value.entry))) []) }
+{
+    match spelled(value) {
+        Some(text) => {
+            values.push(ValueRef::Text(text.as_slice()))?;
+            Ok(())
+        }
+        None => Ok(()),
+    }
+}
+
 // The name and the value of a record, and the text that SQLite spells the value in where it is a number.
-fn values_of(
-    alloc: Global,
-    columns: &Columns,
-    rowid: i64,
-    record: &[u8],
-) -> Result<Row, FileError> {
+fn values_of(alloc: Global, columns: &Columns, rowid: i64, record: &[u8]) -> Result<Row, FileError>
+    ensures { IfOk result (λ values. three_of values ≡ name_in columns.now (rowid, record.now)) }
+{
     let answer = answer_of(columns, rowid, record);
     let mut values = Row::new(alloc);
     values.push(answer.first)?;
     values.push(answer.second)?;
-    if let Some(text) = spelled(answer.second) {
-        values.push(ValueRef::Text(text.as_slice()))?;
-    }
+    push_spelled(&mut values, answer.second)?;
     Ok(values)
 }
 
-// Adds the row of such values, where it is one and its name is new.
-fn add(alloc: Global, names: &mut MemStore, values: &Row) -> Result<Step, FileError>
+// Adds the row of such values, where it is one and its name is new. What is left out, with it.
+fn add(
+    alloc: Global,
+    names: &mut MemStore,
+    left_out: LeftOut,
+    values: &Row,
+) -> Result<LeftOut, FileError>
     requires described { is_table (told_of names.old).descriptions TableName.Metadata ≡ true }
     requires metadata { HoldsNames names.old }
-    ensures described { is_table (told_of names.new).descriptions TableName.Metadata ≡ true }
+    ensures noted { IfOk result (λ left. held_in names.new left
+        ≡ noted TableName.Metadata (held_in names.old left_out) (three_of values.now)) }
+    ensures described { (told_of names.new).descriptions ≡ (told_of names.old).descriptions }
     ensures metadata { HoldsNames names.new }
 {
     let answer = Answer {
@@ -71,17 +118,9 @@ fn add(alloc: Global, names: &mut MemStore, values: &Row) -> Result<Step, FileEr
         fourth: ValueRef::Null,
         fifth: ValueRef::Null,
     };
-    taken(alloc, names, answer)
+    let step = taken(alloc, names, answer)?;
+    Ok(left_out.counted(TableName::Metadata, answer, step))
 }
-
-// How a row without a place is counted: its values tell nothing of it.
-const NOTHING: Answer<'static> = Answer {
-    first: ValueRef::Null,
-    second: ValueRef::Null,
-    third: ValueRef::Null,
-    fourth: ValueRef::Null,
-    fifth: ValueRef::Null,
-};
 
 // Reads all rows of the metadata.
 fn fill<D: Disk>(
@@ -93,21 +132,20 @@ fn fill<D: Disk>(
 ) -> Result<(), FileError>
     requires described { is_table (told_of names.old).descriptions TableName.Metadata ≡ true }
     requires metadata { HoldsNames names.old }
-    ensures described { is_table (told_of names.new).descriptions TableName.Metadata ≡ true }
+    ensures read { Fills source.old.pages source.new.pages root columns.now
+        (held_in names.old source.old.left_out) (held_in names.new source.new.left_out) result }
     ensures metadata { HoldsNames names.new }
     ensures taken { source.new.taken ≡ source.old.taken }
     ensures kept { GoesOn source.old.pages source.new.pages }
     ensures pages { pages_of source.new.pages ≡ pages_of source.old.pages }
 {
-    let table = TableName::Metadata;
     let mut course = Course::new(alloc, columns.key.is_some());
     'rows: for _ in 0..u64::MAX {
         if !course.advance(&mut source.pages, &mut source.scratch, root)? {
             return Ok(());
         }
         let values = values_of(alloc, columns, course.number(), course.record())?;
-        let step = add(alloc, names, &values)?;
-        source.left_out = source.left_out.counted(table, NOTHING, step);
+        source.left_out = add(alloc, names, source.left_out, &values)?;
     }
     Err(FileError::Damaged)
 }
@@ -121,6 +159,11 @@ fn read_names<D: Disk>(
 ) -> Result<(), FileError>
     requires described { is_table (told_of names.old).descriptions TableName.Metadata ≡ true }
     requires metadata { HoldsNames names.old }
+    ensures read { IsTrusted source.new.pages
+        → MarksFree source.old.taken.items (pages_of source.old.pages)
+        → OnOk result (AreNames source.old.pages.usable (pages_of source.old.pages)
+        (option_copied listed.entry) (held_in names.old source.old.left_out)
+        (held_in names.new source.new.left_out)) }
     ensures metadata { HoldsNames names.new }
     ensures marks { KeepsMarks source.old.taken.items source.new.taken.items }
     ensures kept { GoesOn source.old.pages source.new.pages }
@@ -141,6 +184,11 @@ pub(crate) fn metadata<D: Disk>(
     source: &mut Source<D>,
     listed: Option<&Listed>,
 ) -> Result<MemStore, FileError>
+    ensures read { IsTrusted source.new.pages
+        → MarksFree source.old.taken.items (pages_of source.old.pages)
+        → IfOk result (λ names. AreNames source.old.pages.usable (pages_of source.old.pages)
+        (option_copied listed.entry) (no_names, source.old.left_out)
+        (held_in names source.new.left_out)) }
     ensures metadata { IfOk result HoldsNames }
     ensures marks { KeepsMarks source.old.taken.items source.new.taken.items }
     ensures kept { GoesOn source.old.pages source.new.pages }

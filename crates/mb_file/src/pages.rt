@@ -1,9 +1,12 @@
 // The pages of a database and its log, which are only read.
 ghost use Rattle.std.specs.Prelude.{◌≡◌, ◌≤◌, IfOk, IsTrue};
 ghost use Rattle.sqlite_pages.specs.PageMap.{IsUsableSize};
-ghost use Rattle.sqlite_pager.specs.Pager.{AreUsable, state};
+ghost use Rattle.sqlite_pager.specs.Pager as below;
+ghost use Rattle.sqlite_pager.specs.Pager.{AreUsable, image, state};
 ghost use Rattle.sqlite_pool.specs.Report.{reported};
 ghost use Rattle.sqlite_wal.specs.PageSize.{bytes_of};
+ghost use Rattle.sqlite_wal.specs.Reads.{AreClean};
+ghost use Rattle.mb_file.specs.Recovered.{IsRecovered, IsSizeOf, IsUnchanged, image_of};
 
 use crate::FileError;
 use crate::header::{states_count, usable_size};
@@ -42,7 +45,9 @@ fn refused(error: sqlite_wal::Error) -> FileError {
 }
 
 // How many bytes a file has.
-fn length<D: Disk>(files: &mut Files<D>) -> Result<usize, FileError> {
+fn length<D: Disk>(files: &mut Files<D>) -> Result<usize, FileError>
+    ensures still { IsUnchanged D.Disk files.old files.new }
+{
     if !files.db.may_be_used() {
         return Err(FileError::OutOfMemory);
     }
@@ -54,7 +59,11 @@ fn length<D: Disk>(files: &mut Files<D>) -> Result<usize, FileError> {
 }
 
 // How large a page is, by the headers of the log or the file.
-fn page_size<D: Disk>(files: &mut Files<D>) -> Result<PageSize, FileError> {
+fn page_size<D: Disk>(files: &mut Files<D>) -> Result<PageSize, FileError>
+    ensures size { IfOk result (λ size. AreClean D.Disk files.new.log files.new.db
+        → IsSizeOf (image_of D.Disk files.old) (bytes_of size)) }
+    ensures still { IsUnchanged D.Disk files.old files.new }
+{
     if !files.log.may_be_used() || !files.db.may_be_used() {
         return Err(FileError::OutOfMemory);
     }
@@ -66,10 +75,11 @@ fn page_size<D: Disk>(files: &mut Files<D>) -> Result<PageSize, FileError> {
 }
 
 // The size of pages, and how many of them to keep in memory: at most so many, and no more than the file has.
-fn sizes<D: Disk>(
-    files: &mut Files<D>,
-    cache_pages: usize,
-) -> Result<(PageSize, usize), FileError> {
+fn sizes<D: Disk>(files: &mut Files<D>, cache_pages: usize) -> Result<(PageSize, usize), FileError>
+    ensures size { IfOk result (λ sizes. AreClean D.Disk files.new.log files.new.db
+        → IsSizeOf (image_of D.Disk files.old) (bytes_of sizes.0)) }
+    ensures still { IsUnchanged D.Disk files.old files.new }
+{
     let length = length(files)?;
     let size = page_size(files)?;
     let pages = length / size.bytes().max(1);
@@ -83,6 +93,9 @@ fn recover<D: Disk>(pager: &mut Pager<D>) -> Result<usize, FileError>
     ensures used { IfOk result (λ usable. usable ≤ (state pager.old).page_size) }
     ensures usable { IfOk result IsUsableSize }
     ensures ready { IfOk result (λ _. IsTrue (state pager.new).is_ready) }
+    ensures honest { IsTrue (state pager.new).is_clean → IsTrue (state pager.old).is_clean }
+    ensures found { IfOk result (λ usable. IsTrue (state pager.new).is_clean
+        → IsRecovered (image pager.old) pager.new usable) }
 {
     if let Err(error) = pager.recover() {
         return Err(refused(error));
@@ -106,6 +119,7 @@ fn pager_of<D: Disk + Drop>(
     cache_pages: usize,
 ) -> Result<Pager<D>, FileError>
     ensures usable { IfOk result AreUsable }
+    ensures files { IfOk result (λ pager. below.files pager ≡ (files.log, files.db)) }
     ensures size { IfOk result (λ pager. (state pager).page_size ≡ bytes_of size) }
 {
     if !files.log.may_be_used() || !files.db.may_be_used() {
@@ -122,7 +136,8 @@ fn pager_of<D: Disk + Drop>(
 }
 
 impl<D: Disk + Drop> FilePages<D> {
-    ghost use Rattle.mb_file.specs.FilePages.{IsReady};
+    ghost use Rattle.mb_file.specs.FilePages.{IsReady, IsTrusted, pages_of};
+    ghost use Rattle.mb_file.specs.Opened.{AreOf};
 
     // The pages that a file and its log stand for, of which at most so many are kept in memory once they are read.
     // Nothing but the log is written.
@@ -132,6 +147,8 @@ impl<D: Disk + Drop> FilePages<D> {
         cache_pages: usize,
     ) -> Result<FilePages<D>, FileError>
         ensures ready { IfOk result IsReady }
+        ensures found { IfOk result (λ it. IsTrusted it
+            → AreOf (image_of D.Disk files) it.usable (pages_of it)) }
     {
         let (size, held) = match sizes(&mut files, cache_pages) {
             Ok(sizes) => sizes,

@@ -3,6 +3,7 @@ ghost use Rattle.std.specs.Prelude.{◌≡◌, option_map};
 ghost use Rattle.mb_reading.specs.Answer.{answer_row};
 ghost use Rattle.sqlite_record.specs.Affinity.{as_real};
 ghost use Rattle.sqlite_value.specs.Value.{owned};
+ghost use Rattle.mb_file.specs.Metadata.{spelling};
 ghost use Rattle.mb_file.specs.Record.{field, value_if, value_in, values_in};
 
 use crate::columns::{Column, Columns};
@@ -74,7 +75,9 @@ pub(crate) fn answer_of<'a>(columns: &'a Columns, rowid: i64, record: &'a [u8]) 
 }
 
 // The text that SQLite spells a number in, None of another value.
-pub(crate) fn spelled(value: ValueRef<'_>) -> Option<Spelled> {
+pub(crate) fn spelled(value: ValueRef<'_>) -> Option<Spelled>
+    ensures { result ≡ spelling (owned value.entry) }
+{
     match value {
         ValueRef::Int(number) => Some(of_integer(number)),
         ValueRef::Real(real) => Some(of_float(real)),
