@@ -16,6 +16,14 @@ put_tiles : (h : Held) (es : List Named) → (from_last name_put h es).state.til
 put_tiles h [] = refl
 put_tiles h (e ∷ es) = put_tiles h es
 
+put_ids : (h : Held) (es : List Named) → (from_last name_put h es).state.ids ≡ h.state.ids
+put_ids h [] = refl
+put_ids h (e ∷ es) = put_ids h es
+
+put_contents : (h : Held) (es : List Named) → (from_last name_put h es).state.contents ≡ h.state.contents
+put_contents h [] = refl
+put_contents h (e ∷ es) = put_contents h es
+
 put_layout : (h : Held) (es : List Named) → (from_last name_put h es).state.layout ≡ h.state.layout
 put_layout h [] = refl
 put_layout h (e ∷ es) = put_layout h es
@@ -36,14 +44,20 @@ module _ (layout : MbtType) (a : HashAlgorithm) (names : Names) (h : Held) (is :
   abbrev first : Held
   first = fresh (empty_state layout a)
 
-  pub over_layout : h.state.layout ≡ layout
-  over_layout = ap (λ (k : Held). k.state.layout) is ∙ put_layout first (entries names)
+  pub has_layout : h.state.layout ≡ layout
+  has_layout = ap (λ (k : Held). k.state.layout) is ∙ put_layout first (entries names)
 
   pub over_algorithm : h.state.algorithm ≡ a
   over_algorithm = ap (λ (k : Held). k.state.algorithm) is ∙ put_algorithm first (entries names)
 
   pub over_tiles : h.state.tiles ≡ empty
   over_tiles = ap (λ (k : Held). k.state.tiles) is ∙ put_tiles first (entries names)
+
+  pub over_ids : h.state.ids ≡ empty
+  over_ids = ap (λ (k : Held). k.state.ids) is ∙ put_ids first (entries names)
+
+  pub over_contents : h.state.contents ≡ empty
+  over_contents = ap (λ (k : Held). k.state.contents) is ∙ put_contents first (entries names)
 
   pub over_names : h.state.metadata ≡ names
   over_names = ap (λ (k : Held). k.state.metadata) is ∙ (put_names first (entries names) refl ∙ same_names names)

@@ -44,3 +44,13 @@ pub mod PatchLemmas
 pub mod PatchedSetLemmas
 pub mod ResolveLemmas
 pub mod StandsLemmas
+pub mod CollisionLemmas
+pub mod FirstLemmas
+pub mod HeldPartsLemmas
+pub mod NamedLemmas
+pub mod PutContentLemmas
+pub mod RefusalOrderLemmas
+pub mod RootLemmas
+pub mod TakenLemmas
+pub mod RefusingLemmas
+pub mod OverlayingLemmas

@@ -13,16 +13,24 @@ use Rattle.std.specs.FinMap.{contains_key, get_tied, retain_keys}
 use Rattle.tile_streaming.proofs.KeyLemmas.{place_again}
 use Rattle.tile_streaming.proofs.MarkLemmas.{AllRanged}
 use Rattle.tile_streaming.proofs.PermutedLemmas.{entries_where, filter_mapped, filter_permuted}
-use Rattle.tile_streaming.specs.Overlaid.{has_digests, hollow_layout}
+use Rattle.tile_streaming.specs.Layouts.{has_digests, over_layout}
 use Rattle.tile_streaming.specs.declared.mark.Mark.{Mark}
 
 -- a set with another layout, another algorithm, other names and other contents
-abbrev with_facts : State → MbtType → HashAlgorithm → Names → Contents → State
+abbrev pub with_facts : State → MbtType → HashAlgorithm → Names → Contents → State
 with_facts s layout a names contents = record s { layout = layout; algorithm = a; metadata = names; contents = contents }
+
+-- where contents stand under their digests, what lies over has the layout of the base
+pub same_layout : (l : MbtType) → has_digests l ≡ true → over_layout l ≡ l
+same_layout (Normalized view Hash) h = refl
+same_layout (Normalized view DedupId) h = absurd (false≢true h)
+same_layout Flat h = absurd (false≢true h)
+same_layout FlatWithHash h = absurd (false≢true h)
+same_layout Cache h = absurd (false≢true h)
 
 module _ (force : Bool) (q : State) where
   -- where no contents stand under digests, they aren't asked for, or the layout is refused before
-  by_layout : (s : State) (layout : MbtType) (c d : Contents) → has_digests layout ≡ false → may_patch force (with_facts s (hollow_layout layout) s.algorithm s.metadata c) q ≡ may_patch force (with_facts s layout s.algorithm s.metadata d) q
+  by_layout : (s : State) (layout : MbtType) (c d : Contents) → has_digests layout ≡ false → may_patch force (with_facts s (over_layout layout) s.algorithm s.metadata c) q ≡ may_patch force (with_facts s layout s.algorithm s.metadata d) q
   by_layout s Flat c d none = refl
   by_layout s FlatWithHash c d none = refl
   by_layout s (Normalized view Hash) c d none = absurd (false≢true (sym none))
@@ -30,7 +38,7 @@ module _ (force : Bool) (q : State) where
   by_layout s Cache c d none = refl
 
   -- a patch is tested on a set of the other layout as on the set
-  pub tested_alike : (over s : State) → over.layout ≡ hollow_layout s.layout → has_digests s.layout ≡ false → over.metadata ≡ s.metadata → over.algorithm ≡ s.algorithm → may_patch force over q ≡ may_patch force s q
+  pub tested_alike : (over s : State) → over.layout ≡ over_layout s.layout → has_digests s.layout ≡ false → over.metadata ≡ s.metadata → over.algorithm ≡ s.algorithm → may_patch force over q ≡ may_patch force s q
   tested_alike over s layout none names algorithm =
       (λ i. may_patch force (with_facts s (layout i) (algorithm i) (names i) over.contents) q)
       ∙ by_layout s s.layout over.contents s.contents none

@@ -13,6 +13,7 @@ use Rattle.tile_bridge.specs.Stores.{due_at, due_patches, Refuses}
 use Rattle.tile_streaming.proofs.PatchLemmas.{error_as}
 use Rattle.tile_streaming.specs.Contents.{content_mark}
 use Rattle.tile_streaming.specs.Marks.{mark_with}
+use Rattle.tile_streaming.specs.Patching.{if_told}
 use Rattle.tile_streaming.specs.Streaming.{begun_due}
 use Rattle.tile_streaming.specs.declared.mark.ContentMark.{ContentMark}
 
@@ -41,17 +42,6 @@ held_more f pre es i d old x far here before =
 pub none_more : (xs : List Mark) (es : List (Place × Option (List ℕ))) → length es ≡ 0 → IsPermutation (xs ++ map mark_of es) xs
 none_more xs [] none = subst (λ l. IsPermutation l xs) (sym (append-nil xs)) (IsPermutation-refl xs)
 none_more xs (e ∷ es) none = absurd (omega (arith, none))
-
--- where there are patches
-pub some_patches : (n : ℕ) (none : Bool) → none ≡ nat_eq n 0 → 0 < n → not none ≡ true
-some_patches n none is some = by none (is ∙ not_zero)
-  where
-    not_zero : nat_eq n 0 ≡ false
-    not_zero = grind (arith, nat_tests)
-
-    by : (b : Bool) → b ≡ false → not b ≡ true
-    by false h = refl
-    by true h = absurd (false≢true (sym h))
 
 -- the bytes of a set once all marks are together
 pub has_settled : (p : PatchedSet) (over : TileSet) (layout : MbtType) (told : Tables) (tiles : TileSet) → p.over.state.tiles ≡ over → p.marked.layout ≡ layout → HasBytes (bytes_over over (bytes_told layout told)) tiles → HasBytes (stored_in p told) tiles
@@ -101,8 +91,13 @@ module _ {S P : Type 0} (tells : S → Bool) (told : S → Tables) (patch_tells 
     pub begun_is : (next : State) → IsDue patches_due next → IsDue begun next
     begun_is next due = from_patches (λ d. d ≡ Ok next) due
 
-    pub patches_refused : {A : Type 0} (e : ConvertError) (r : Result A ConvertError) → Refuses patches_due e → IsErrAnd r (λ x. x ≡ e) → IfErr r (Refuses begun)
-    patches_refused e r h is = error_as (Refuses begun) e r (refuses_on patches_due begun e (λ x refused. from_patches (λ d. d ≡ Err x) refused) h) is
+    -- where the base tells nothing, nothing is due of all
+    from_told : (b : Bool) → tells base ≡ b → (x : ConvertError) → IsRefused (if_told b patches_due) x → IsRefused begun x
+    from_told true e x refused = from_patches (λ d. d ≡ Err x) refused
+    from_told false e x refused = subst (λ b. IfSome (cond (b && list_all patch_tells patches) (Some (then (at_place 0 (state_of (told base))) (λ s. all_patched force 1 s (map patch_told patches)))) None) (λ d. d ≡ Err x)) (sym e) tt
+
+    pub patches_refused : {A : Type 0} (e : ConvertError) (r : Result A ConvertError) → Refuses (if_told (tells base) patches_due) e → IsErrAnd r (λ x. x ≡ e) → IfErr r (Refuses begun)
+    patches_refused e r h is = error_as (Refuses begun) e r (refuses_on (if_told (tells base) patches_due) begun e (from_told (tells base) refl) h) is
 
 -- a count of the base that rose later
 pub rose_behind : (place a b c : ℕ) (xs ys : List ℕ) → a ≤ b → RoseAt place (b ∷ []) (c ∷ []) → RoseAt place (a ∷ xs) (c ∷ ys)

@@ -20,6 +20,9 @@ use Rattle.std.specs.Prelude.{option_and_then, option_to_list}
 use Rattle.tile_streaming.proofs.KeyLemmas.{place_again}
 use Rattle.tile_streaming.proofs.MarkLemmas.{AllRanged, entry_of}
 use Rattle.tile_streaming.proofs.MemberLemmas.{all_of_has}
+use Rattle.mb_tables.specs.declared.table.TableName.TheVariants.{Images}
+use Rattle.tile_streaming.specs.Collisions.{content_told}
+use Rattle.tile_streaming.specs.Layouts.{has_digests}
 use Rattle.tile_streaming.specs.Stored.{HasBytes, IsStored, Stored}
 
 -- what a cell of contents has
@@ -141,6 +144,20 @@ joined_parts (Some id) look c h = by (look id) refl
     by None e = absurd (none-some c (sym (ap (option_and_then contents_of) e) ∙ h))
     by (Some cell) e = (id, refl, cell, e, sym (ap (option_and_then contents_of) e) ∙ h)
 
+-- where contents stand under their digests
+digest_table : (l : MbtType) → has_digests l ≡ true → content_table l ≡ Images
+digest_table (Normalized view Hash) h = refl
+digest_table (Normalized view DedupId) h = absurd (false≢true h)
+digest_table Flat h = absurd (false≢true h)
+digest_table FlatWithHash h = absurd (false≢true h)
+digest_table Cache h = absurd (false≢true h)
+
+pub digest_named : (l : MbtType) → has_digests l ≡ true → is_normalized l ≡ true
+digest_named (Normalized view schema) h = refl
+digest_named Flat h = absurd (false≢true h)
+digest_named FlatWithHash h = absurd (false≢true h)
+digest_named Cache h = absurd (false≢true h)
+
 -- tables that load
 module _ (t : Tables) (s : State) (sound : IsSound t) (due : state_of t ≡ Ok s) where
   from : IsLoadedFrom t (fresh s)
@@ -188,6 +205,14 @@ module _ (t : Tables) (s : State) (sound : IsSound t) (due : state_of t ≡ Ok s
         ap (option_map (row_bytes s.layout)) (told_named s.layout t (address e.0) norm ∙ (ap (option_and_then (named_told table t)) (tile_is one.0 one.1) ∙ contents))
         ∙ ap Some (ap cell_bytes (cell_named s.layout (id ∷ cell ∷ []) norm) ∙ cell_has cell e.1 joined.4)
 
+    -- the id that the row of a tile names
+    pub told_id : is_normalized s.layout ≡ true → get s.ids e.0 ≡ option_map (cell_at 3) (tile_told s.layout t (address e.0))
+    told_id norm =
+        let joined = joined_parts (get s.ids e.0) (get s.contents) e.1 (sym (from.state.joined norm e.0) ∙ there) in
+        let one = one_row (at_place (id_in s.layout)) e.0 (filter test rows) joined.0 fit.alone (fit.id ∙ joined.1) in
+        let names : cell_at 3 one.0 ≡ joined.0 = id_named s.layout one.0 joined.0 norm (beside (id_in s.layout) one.0 one.2 one.3 ∙ ap Some one.4) in
+        joined.1 ∙ sym (ap (option_map (cell_at 3)) (tile_is one.0 one.1) ∙ ap Some names)
+
     -- the bytes that they have for a tile
     pub told_row : bytes_told s.layout t (address e.0) ≡ Some (bytes_of e.1)
     told_row = by (is_normalized s.layout) refl
@@ -195,6 +220,19 @@ module _ (t : Tables) (s : State) (sound : IsSound t) (due : state_of t ≡ Ok s
         by : (b : Bool) → is_normalized s.layout ≡ b → bytes_told s.layout t (address e.0) ≡ Some (bytes_of e.1)
         by true n = named_row n
         by false n = flat_row n
+
+  -- the contents that they have under a digest
+  pub told_content : has_digests s.layout ≡ true → (d : List ℕ) → content_told t (Text d) ≡ get s.contents (Text d)
+  told_content digests d =
+      let table = digest_table s.layout digests in
+      let norm = digest_named s.layout digests in
+      let kept : filter (has_key Images (TextId d)) (t.rows Images) ≡ option_to_list (option_map (λ c. Text d ∷ c ∷ []) (get s.contents (Text d))) =
+      ap (λ u. filter (has_key u (TextId d)) (t.rows u)) (sym table) ∙ ap (filter (has_key (content_table s.layout) (TextId d))) (sym (rows_named s.layout t norm)) ∙ from.contents (Text d) (TextId d) refl (ap is_some (get-empty cell_cmp (Text d))) in
+      ap (option_map (cell_at 1)) (find_only (has_key Images (TextId d)) (t.rows Images) (option_map (λ c. Text d ∷ c ∷ []) (get s.contents (Text d))) kept) ∙ by (get s.contents (Text d))
+    where
+      by : (o : Option Cell) → option_map (cell_at 1) (option_map (λ c. Text d ∷ c ∷ []) o) ≡ o
+      by None = refl
+      by (Some c) = refl
 
 same_number : (n : ℕ) → nat_eq n n ≡ true
 same_number n = grind (arith, nat_tests)
@@ -204,7 +242,7 @@ same_answer true = refl
 same_answer false = refl
 
 -- the entry of a tile
-there_has : (tiles : TileSet) (e : Place × Option (List ℕ)) → Has e (entries tiles) → get tiles e.0 ≡ Some e.1
+pub there_has : (tiles : TileSet) (e : Place × Option (List ℕ)) → Has e (entries tiles) → get tiles e.0 ≡ Some e.1
 there_has tiles e h = get-entries tiles e.0 ∙ has_find place_cmp places_total (entries tiles) e.0 e.1 (sorted_true _ (entries_sorted tiles)) h
 
 -- all places of a state that tables can hold are in range
@@ -216,7 +254,7 @@ loadable_ranged s whole e h =
 pub state_ranged : (t : Tables) (s : State) → state_of t ≡ Ok s → AllRanged (entries s.tiles)
 state_ranged t s due = loadable_ranged s (state_whole t s due).0
 
-has_there : (tiles : TileSet) (p : Place) (c : Option (List ℕ)) → get tiles p ≡ Some c → Has (p, c) (entries tiles)
+pub has_there : (tiles : TileSet) (p : Place) (c : Option (List ℕ)) → get tiles p ≡ Some c → Has (p, c) (entries tiles)
 has_there tiles p c h = find_has place_cmp (λ a b e. same_place a b (ap is_eq e)) (entries tiles) p c (sym (get-entries tiles p) ∙ h)
 
 -- the bytes that stand under the id of a tile's place

@@ -1,8 +1,10 @@
 pub mod Adding
+pub mod Collisions
 pub mod Common
 pub mod Contents
 pub mod Finding
 pub mod Hashing
+pub mod Layouts
 pub mod Marks
 pub mod MarkFacts
 pub mod Sizing

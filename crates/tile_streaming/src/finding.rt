@@ -17,8 +17,8 @@ use std::alloc::Global;
 use tile_hash::xxh3_64;
 use tile_ids::{TileCoord, TileId, invert_y_value};
 
-// The key of the row of a coordinate.
-fn key_at(coord: TileCoord) -> RowKey
+/// The key of the row of a coordinate.
+pub(crate) fn key_at(coord: TileCoord) -> RowKey
     ensures { result ≡ tile_key (place_at coord) }
 {
     let zoom = coord.z();

@@ -2,6 +2,7 @@
 #![tactic(auto)]
 
 mod beginning;
+mod collisions;
 mod content_marks;
 mod contents;
 mod converting;
@@ -10,6 +11,7 @@ mod error;
 mod finding;
 mod hashing;
 pub mod laws;
+mod layouts;
 mod mark;
 mod mark_facts;
 mod marking;
@@ -21,8 +23,10 @@ mod part;
 mod patched_set;
 mod patching;
 mod reading;
+mod refusing;
 mod report;
 mod resolving;
+mod rest;
 mod row_marks;
 mod row_tests;
 mod seen_rows;

@@ -4,11 +4,10 @@ ghost use Rattle.std.specs.FinMap.{len};
 ghost use Rattle.std.specs.List.Sorted.{IsNonDecreasingBy, IsPermutation};
 ghost use Rattle.tile_bridge.specs.Stands.{StoresStand};
 ghost use Rattle.tile_bridge.specs.Stores.{AreOnlyRead, Refuses, RoseAt};
-ghost use Rattle.tile_streaming.specs.Common.{entries, ReadsOnly, State};
+ghost use Rattle.tile_streaming.specs.Common.{entries, ReadsOnly, State, Tables};
 ghost use Rattle.tile_streaming.specs.Marks.{IsMarkedAs, mark_of};
 ghost use Rattle.tile_streaming.specs.Overlaid.{StandsFor};
 ghost use Rattle.tile_streaming.specs.PatchedSet.{stored_in};
-ghost use Rattle.tile_streaming.specs.Stored.{Stored};
 ghost use Rattle.tile_streaming.specs.Streaming.{begun_due, IsHeldOf};
 
 use crate::beginning::read_base;
@@ -18,6 +17,7 @@ use crate::ordering::sort_by_id;
 use crate::overlaid::Overlaid;
 use crate::patched_set::PatchedSet;
 use crate::patching::patch_all;
+use crate::rest::Rest;
 use crate::row_marks::mark_at;
 use crate::{Mark, MarkedSet};
 use base_values::OutOfMemory;
@@ -67,13 +67,18 @@ fn all_marks(rest: Vec<Mark>, over: &Loaded) -> Result<Vec<Mark>, OutOfMemory>
 // The set that a base is with its patches.
 fn settle(alloc: Global, set: Overlaid) -> Result<PatchedSet, OutOfMemory>
     ensures over { IfOk result (λ x. x.over ≡ set.over) }
-    ensures layout { IfOk result (λ x. x.marked.layout ≡ set.layout) }
-    ensures held { (patched tells : Bool) (stored : Stored) (s : State)
-        → StandsFor patched tells stored set s → IfOk result (λ x. IsMarkedAs s x.marked) }
+    ensures layout { IfOk result (λ x. x.marked.layout ≡ set.rest.layout) }
+    ensures held { (tells : Bool) (told : Tables) (s : State) → StandsFor tells told set s
+        → IfOk result (λ x. IsMarkedAs s x.marked) }
 {
-    let Overlaid { layout, over, rest } = set;
+    let Overlaid { over, rest } = set;
+    let Rest {
+        layout,
+        marks,
+        is_whole: _,
+    } = rest;
     let names = SetNames::of_set(alloc, &over)?;
-    let marks = all_marks(rest, &over)?;
+    let marks = all_marks(marks, &over)?;
     let algorithm = over.algorithm();
     Ok(PatchedSet {
         marked: MarkedSet {
@@ -106,7 +111,7 @@ pub(crate) fn resolve<S: TileStore, P: TileStore>(
         → RoseAt p (S.faults base.old ∷ map P.faults patches.old.items)
         (S.faults base.new ∷ map P.faults patches.new.items) }
 {
-    let set = read_base(alloc, base, !patches.is_empty())?;
-    let set = patch_all(alloc, set, patches, force)?;
+    let set = read_base(alloc, base)?;
+    let set = patch_all(alloc, base, set, patches, force)?;
     Ok(settle(alloc, set)?)
 }

@@ -1,17 +1,19 @@
-use Rattle.tile_streaming.proofs.Common.{Err, false, is_free, MbtError, refl, ◌≡◌}
-use Rattle.mb_edit.specs.Step.{step}
-use Rattle.tile_streaming.proofs.OverlaidLemmas.{lies_patched, next_passes, next_refused}
-use Rattle.tile_streaming.proofs.PatchLemmas.{error_as}
+use Rattle.tile_streaming.proofs.OverlayingLemmas.{put_may, put_refused, put_stands}
+use Rattle.tile_streaming.proofs.RefusingLemmas.{another_refuses}
 use Rattle.tile_streaming.proofs.patching.overlay.Goals as goal
 
-pub returns-in_err-over-clause-refused : goal.returns-in_err-over-clause-refused
-returns-in_err-over-clause-refused c = λ patched tells stored s on stands.
-    error_as (λ (e : MbtError). is_free e ≡ false → step c.args.force s c.args.patch.now.state ≡ Err e) c.in_err-over.field-0.0 c.from_residual.result
-    (λ free. next_refused patched tells stored c.args.set s stands c.args.force c.args.patch.now.state c.in_err-over.field-0.0 on (c.in_err-over.ensures.refused free)) c.from_residual.ensures.1
+pub returns-in-Ok-clause-may : goal.returns-in-Ok-clause-may
+returns-in-Ok-clause-may g c = λ s stands.
+    put_may (g.S.TileStore.tells c.args.base.now) (g.S.TileStore.told c.args.base.now) c.args.set s stands c.args.force c.args.patch.now.state c.in-Ok.over c.in-Ok.ensures.value.0 c.in-Ok.ensures.value.1 c.put_over.result c.put_over.ensures.apart
 
-pub returns-clause-may : goal.returns-clause-may
-returns-clause-may c = λ patched tells stored s on stands. next_passes patched tells stored c.args.set s stands c.args.force c.args.patch.now.state on c.in_ok-over.ensures.value.0
+pub returns-in-Ok-clause-stands : goal.returns-in-Ok-clause-stands
+returns-in-Ok-clause-stands g c = λ s stands.
+    put_stands (g.S.TileStore.tells c.args.base.now) (g.S.TileStore.told c.args.base.now) c.args.set s stands c.args.force c.args.patch.now.state c.in-Ok.over c.in-Ok.ensures.value.0 c.in-Ok.ensures.value.1 c.requires.on_board c.put_over.result c.put_over.ensures.set c.put_over.ensures.apart
 
-pub returns-clause-stands : goal.returns-clause-stands
-returns-clause-stands c = λ patched tells stored s on stands.
-    lies_patched patched tells stored c.args.set s stands c.args.patch.now.state c.requires.on_board (record { layout = c.args.set.layout; over = c.in_ok-over.over; rest = c.keep_left.new.rest }) refl c.in_ok-over.ensures.value.1 c.keep_left.ensures
+pub returns-in-Ok-clause-refused : goal.returns-in-Ok-clause-refused
+returns-in-Ok-clause-refused g c = λ s stands.
+    put_refused (g.S.TileStore.tells c.args.base.now) (g.S.TileStore.told c.args.base.now) c.args.set s stands c.args.force c.args.patch.now.state c.in-Ok.over c.in-Ok.ensures.value.0 c.in-Ok.ensures.value.1 c.args.place c.put_over.result c.put_over.ensures.refused
+
+pub returns-in-Err-clause-refused : goal.returns-in-Err-clause-refused
+returns-in-Err-clause-refused g c = λ s stands.
+    another_refuses (g.S.TileStore.tells c.args.base.now) (g.S.TileStore.told c.args.base.now) c.args.set s stands c.args.force c.args.place c.args.patch.now.state c.algorithm-algorithm.result c.algorithm-algorithm.ensures c.in-Err.error c.refuse.result c.in-Err.ensures.refused c.refuse.ensures.refused
