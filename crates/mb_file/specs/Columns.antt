@@ -1,6 +1,6 @@
--- Where a table has the columns of its set. They are found by their names, in any ASCII case, in the text that makes the
--- table. A row is a record of its columns in order; one that is the INTEGER PRIMARY KEY is the rowid, and null there
--- (SQLite's file format, section 2.3).
+-- Where a table has the columns of its set. They are found by their names, in any ASCII case, in the text that makes
+-- the table. A row is a record of its columns in order; one that is the INTEGER PRIMARY KEY is the rowid, and null
+-- there (SQLite's file format, section 2.3).
 use Rattle.std.specs.Prelude.{◌≡◌, ℕ, codes, ◌==◌, ◌+◌, ◌^◌, ◌-◌, min, nat_lt, Bool, false, true, cond, List, [], ◌∷◌, filter, length, Option, Some, None, MatchOption, option_and_then, option_map, slice_get, Result, Ok, Err}
 use Rattle.std.specs.List.{position_from}
 use Rattle.mb_tables.specs.declared.table.TableName.{TableName}
