@@ -161,7 +161,7 @@ for form in '' 'pragma auto_vacuum = full;' "pragma encoding = 'UTF-16';"; do
         create index i on images (tile_id) where tile_id < 40; create index j on map (tile_id) where tile_id < 40;
         create view tiles as select zoom_level, tile_column, tile_row, tile_data from map join images on map.tile_id = images.tile_id;
         pragma writable_schema = on; update sqlite_schema set sql = replace(sql, ' where tile_id < 40', '') where type = 'index'"
-    holds [ "$("$real" a.mbtiles 'select count(*) from tiles; select count(*) from map')" = '40
+    holds [ "$("$real" a.mbtiles 'select count(*) from tiles; select count(*) from map not indexed')" = '40
 64' ]
     for way in '' --by-script; do
         # shellcheck disable=SC2086 no word, or one

@@ -4,7 +4,8 @@
     tools/checks/gate_costs.py [WORDS OF rt ci ..]
 
 Each process that descends from the run is looked at twice a second, so what one did in its last half second is missing.
-The run's own output goes to standard error. For the cost from nothing give `--anew`.
+The run's own output goes to standard error. For the cost from nothing give `--anew`,
+which kit 13b has not: there each run is one from nothing.
 """
 import collections
 import os
