@@ -12,6 +12,8 @@ import subprocess
 import sys
 import zlib
 
+from python_said import end_by_interrupts
+
 HEADER = struct.Struct('<7sB11Q6B4iB2i')
 ROOT_END = 16384
 DEEPEST = 6
@@ -308,4 +310,5 @@ def main():
 
 
 if __name__ == '__main__':
+    end_by_interrupts()
     sys.exit(main())

@@ -1,8 +1,15 @@
 """The words that the Python scripts here take, and what they print, on streams that may be closed or full."""
 import os
+import signal
 import sys
 
 UNWRITTEN = "standard output can't be written"
+
+
+def end_by_interrupts():
+    """Lets an interrupt end the script as it ends other programs, without a word, unless it is ignored."""
+    if signal.getsignal(signal.SIGINT) is signal.default_int_handler:
+        signal.signal(signal.SIGINT, signal.SIG_DFL)
 
 
 def written(stream, text):

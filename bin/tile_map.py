@@ -6,7 +6,7 @@ import os
 import subprocess
 import sys
 
-from python_said import fail, printed, words_of
+from python_said import end_by_interrupts, fail, printed, words_of
 from tile_cells import Unread, cells_of_entries, cells_of_set, is_set
 
 FATYNGU = os.path.join(os.path.dirname(os.path.abspath(__file__)), 'fatyngu')
@@ -64,4 +64,5 @@ def main(words):
 
 
 if __name__ == '__main__':
+    end_by_interrupts()
     main(sys.argv[2:])

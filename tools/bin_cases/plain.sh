@@ -149,6 +149,29 @@ PYTHON
     done
     ends
 
+    fresh 'an interrupt on the terminal'
+    # a gigabyte of tiles, of which the file has no block
+    cp "$one_tile" long.pmtiles
+    printf '\0\0\0\100\0\0\0\0' | dd of=long.pmtiles bs=1 seek=64 conv=notrunc status=none
+    truncate -s 1100000000 long.pmtiles
+    mkdir to
+    for signal in INT:130 TERM:143; do
+        # a group of its own, as a terminal has one
+        env --default-signal setsid "$plain" --no-verify long.pmtiles to/made.pmtiles >out 2>err </dev/null &
+        made=$!
+        for _ in $(seq 200); do
+            nothing_in to || break
+            sleep 0.1
+        done
+        kill -"${signal%:*}" -- -$made
+        wait $made
+        got=$?
+        status "${signal#*:}"
+        holds eval '! grep -v "^Terminated$" err'
+        holds nothing_in to
+    done
+    ends
+
     fresh 'a check that can not be made'
     built=$here/crates/tile_verify_program/out/tile_verify_program
     mv "$built" kept
