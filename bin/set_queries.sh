@@ -119,7 +119,8 @@ are_tiles() {
     echo "(not exists (select z, x, y, d from grid where length(d) > 0 except $1) and not exists ($1 except select z, x, y, d from grid))"
 }
 
-# the rows, in the layout $1 where that isn't flat, the stored hashes are digests and its tables have the tiles of `tiles`
+# the rows, in the layout $1 where that isn't flat, the stored hashes are digests and its tables have the tiles of
+# `tiles`
 sql_rows() {
     flat="'row tiles i' || z || ' i' || x || ' i' || y || ' ' || case when d is null then 'n' else 'x' || hex(d) end"
     map="select $(whole zoom_level) as z, $(whole tile_column) as x, $(whole tile_row) as y"

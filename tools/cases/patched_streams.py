@@ -78,9 +78,6 @@ def changing_bases():
             changing(script, 1, (1, 0, 0), f"{changed}|0")
             changing(script, len(order) + 1, None, "0||1")
             changing_hashed_base(script, order)
-    # contents that may collide with those of a patch are held, so that no row is sought again
-    for layout in ("normalized", "normalized-with-view"):
-        changing(text("option force", store("base", layout, tiles), first, "query 0 0 0"), 1, None, "0||1")
 
 
 def changing_hashed_base(script, order):

@@ -14,6 +14,7 @@ from cases.archives_again import adds_of, archive, tile_id
 from cases.rows import TOP
 from cases.set_scripts import (bad_rows, four_ways, QUERY, random_chains, refused_patches, refused_sets, removes_the_tile, verified_sets,
                                worked_patches, worked_sets)
+from cases.collided_streams import collided_streams
 from cases.measured_sets import again, measured
 from cases.odd_streams import odd_streams
 from cases.patched_streams import patched_streams
@@ -132,6 +133,7 @@ def main():
     says()
     streams_by_itself()
     patched_streams()
+    collided_streams()
     parts()
     again()
     odd_streams()

@@ -1,4 +1,5 @@
--- Patches of a base of which marks are held, tested on what patches put, and on contents of the base that are looked up.
+-- Patches of a base of which marks are held, tested on what patches put, and on contents of the
+-- base that are looked up.
 use Rattle.tile_streaming.proofs.Common.{ap, Bool, Cell, cond, due_by, Err, false, false≢true, find, get, Has, HashAlgorithm, IsPermutation, List, list_any, MbtError, MbtType, None, none-some, not, Ok, Option, option_map, option_or, refl, Result, same_Some, Some, State, subst, sym, Tables, true, ℕ, [], ◌&&◌, ◌||◌, ◌∙◌, ◌∷◌, ◌≡◌}
 use Rattle.mb_edit.proofs.PatchedLemmas.{or_none}
 use Rattle.mb_edit.specs.Collision.{collides, collision, has_twin, is_other}

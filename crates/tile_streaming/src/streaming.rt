@@ -138,9 +138,9 @@ pub fn convert_part<S: TileStore, P: TileStore, O: StreamOptions, M: Medium>(
 /// place 0, are read and tested by pages, those of the contents of a normalised set first; then each patch is loaded
 /// and tested (the k-th has place k); then the contents of each tile that no patch has are read again, in the order of
 /// the archive, and added. Of a normalised set the ids of contents are held too while its rows are read, with a mark of
-/// 16 bytes each. Where its ids are digests, the contents that a patch puts are sought in it by their digests, one look-up
-/// for each tile of the patch; where it has others under one, the rows of its tiles that no patch has are sought, one after
-/// another, until one names that digest.
+/// 16 bytes each. Where its ids are digests, the contents that a patch puts are sought in it by their digests, one
+/// look-up for each tile of the patch; where it has others under one, the rows of its tiles that no patch has are
+/// sought, one after another, until one names that digest.
 ///
 /// The hash of all tiles is reported where it is to be verified (`verify` of the options), and where it is wanted for
 /// itself (`hash`). It needs the contents by place, so that each is read once more before the archive, in the memory of
