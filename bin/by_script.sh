@@ -29,7 +29,7 @@ eval "out=\${$#}"
 shown_out=$out
 plain_path "$out"
 out=$plain
-test_sqlite3
+test_sqlite3 'the command sqlite3 is missing (package sqlite3)'
 number=0
 for file; do
     number=$((number + 1))

@@ -1,14 +1,30 @@
-# Why sqlite3 couldn't read the file of a set.
+# How sqlite3 is run over the file of a set, and why it couldn't read it.
 # shellcheck disable=SC2154
+
+# exec_sqlite3 WORDS..: sqlite3 in the place of a subshell or of a command in the background. What the schema of a set
+# calls may only compute: `edit`, a function of this command, would run any command. CHECK constraints, which the pragma
+# doesn't hold back, aren't parsed of a file that is opened for reading alone, as each set is.
+exec_sqlite3() {
+    exec sqlite3 -init /dev/null -batch -cmd 'pragma trusted_schema = off' "$@"
+}
+
+# test_sqlite3 WORDS: ends where there is no sqlite3, by these words, or one that doesn't know that pragma
+test_sqlite3() {
+    command -v sqlite3 >/dev/null || fail 1 "$1"
+    [ "$(exec_sqlite3 ':memory:' 'pragma trusted_schema' </dev/null 2>/dev/null)" = 0 ] ||
+        fail 1 'the command sqlite3 has to be 3.31 or newer: an older one runs commands that a set names'
+}
 
 # explain FILE ERRORS: says it by the words that sqlite3 left in a file, and ends
 explain() {
-    words=$(sed -n 's/^[A-Za-z ]*[Ee]rror[^:]*: *//; /./p' "$2" | tail -n 1)
+    words=$(sed -n '/^[A-Za-z ]*[Ee]rror[^:]*: */{s///; s/^in prepare, //; s/^stepping, //; /./p;}' "$2" | tail -n 1)
+    [ -n "$words" ] || words=$(sed -n '/./p' "$2" | tail -n 1)
     case $words in
     *locked* | *busy*) fail 1 "$1 is locked by another program; try again when that has ended" ;;
     *'not a database'* | *encrypted*) fail 3 "$1 is no SQLite database" ;;
     *'same text encoding'*) fail 1 "$1 has its texts in UTF-16, which a script can't hold; without --by-script it is rewritten first" ;;
     *'disk is full'* | *'disk I/O error'*) fail_room ;;
+    *'unsafe use of'*) fail 1 "$1 is refused: its schema makes $words, which may do more than compute" ;;
     *malformed* | *corrupt*) fail 1 "$1 is damaged: $words" ;;
     *'unable to open'* | *readonly*) explain_unopened "$1" "$words" ;;
     '') fail 1 "$1: sqlite3 ended before its last row" ;;
@@ -26,7 +42,7 @@ test_trees() {
 }
 
 check_trees() {
-    sqlite3 -init /dev/null -batch "$(uri "$1")" '.timeout 5000' "pragma $2(10000)" </dev/null >"$3.trees" 2>"$3"
+    (exec_sqlite3 "$(uri "$1")" '.timeout 5000' "pragma $2(10000)") </dev/null >"$3.trees" 2>"$3"
 }
 
 # why SQLite can't open a file that is there

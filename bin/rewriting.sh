@@ -5,14 +5,13 @@
 # transaction. These files stand in a folder of their own beside OUT, which is gone in the end. What the program says of
 # them is said of the user's files.
 # shellcheck disable=SC2154
-command -v sqlite3 >/dev/null ||
-    fail 1 "a set's file is in a form that isn't read directly; the command sqlite3 (package sqlite3) would rewrite it, and is missing"
+. "$here/explaining.sh"
+test_sqlite3 "a set's file is in a form that isn't read directly; the command sqlite3 (package sqlite3) would rewrite it, and is missing"
 sets=$(($# - 1))
 room=$(mktemp -d "$folder/.mbtiles-to-pmtiles.XXXXXX") || {
     room=
     fail 6 "$folder can't be written"
 }
-. "$here/explaining.sh"
 fail_room() {
     fail 6 "$folder has no room for the sets that are rewritten, which need as much as their tiles have, or can't be written"
 }
@@ -43,7 +42,7 @@ SQL
 
 # ask FILE SQL: an answer of SQLite on a set's file
 ask() {
-    sqlite3 -init /dev/null -batch "$(uri "$1")" '.timeout 5000' "$2" </dev/null 2>"$room/errors" || explain "$1" "$room/errors"
+    (exec_sqlite3 "$(uri "$1")" '.timeout 5000' "$2") </dev/null 2>"$room/errors" || explain "$1" "$room/errors"
 }
 
 # run_sqlite3 FILE INPUT WORDS..: runs sqlite3 so that an interrupt ends it, and says why it failed on a set's file
@@ -51,7 +50,7 @@ run_sqlite3() {
     file=$1
     input=$2
     shift 2
-    sqlite3 -init /dev/null -batch "$@" <"$input" >"$room/answer" 2>"$room/errors" &
+    exec_sqlite3 "$@" <"$input" >"$room/answer" 2>"$room/errors" &
     rewriter=$!
     wait "$rewriter" || {
         rewriter=

@@ -23,12 +23,7 @@ own_layout() {
                 ('zoom_level', 'tile_column', 'tile_row', 'tile_data', 'tile_hash', 'tile_id') group by m.name)
             select case when exists (select 1 from has where t = 'map' and n = 4) and exists (select 1 from has where t = 'images' and n = 2) then 'normalized'
                 when exists (select 1 from has where t = 'tiles_with_hash' and n = 5) then 'flat-with-hash' else 'flat' end;"
-    } | sqlite3 -init /dev/null -batch ':memory:' 2>/dev/null || echo flat
-}
-
-# ends where there is no sqlite3
-test_sqlite3() {
-    command -v sqlite3 >/dev/null || fail 1 'the command sqlite3 is missing (package sqlite3)'
+    } | exec_sqlite3 ':memory:' 2>/dev/null || echo flat
 }
 
 # ends where a file that is needed for a while can't be written
@@ -44,7 +39,7 @@ start_set() {
     keeps=1
     [ "$2" != ':memory:' ] || keeps=0
     { sql_attach "$1" && sql_begin && sql_tiles && sql_metadata && sql_rows "$3" $keeps; } >"$work/sql" || fail_room
-    sqlite3 -init /dev/null -batch "$2" <"$work/sql" >"$work/lines" 2>"$work/errors" &
+    exec_sqlite3 "$2" <"$work/sql" >"$work/lines" 2>"$work/errors" &
     reader=$!
     exec 3<"$work/lines"
     rm "$work/lines"

@@ -173,6 +173,7 @@ def cells_of_set(path):
     rows = f'select {places}, {size} from tiles where {size} > 0'
     try:
         with contextlib.closing(sqlite3.connect(name, uri=True)) as database:
+            database.execute('pragma trusted_schema = off')
             for z, x, y, length in database.execute(rows):
                 if None not in (z, x, y) and 0 <= z <= 30 and 0 <= x < 1 << z and 0 <= y < 1 << z:
                     cells.add(z, x, (1 << z) - 1 - y, 0, length)

@@ -1,5 +1,5 @@
-# Cases of tools/check_bin: tables whose names mislead, rows without a place, and files beside that a reader may miss.
-# Each set is converted as SQLite reads its `tiles`, or refused in words.
+# Cases of tools/check_bin: tables whose names mislead, schemas that would run commands, rows without a place, and files
+# beside that a reader may miss. Each set is converted as SQLite reads its `tiles`, or refused in words.
 # shellcheck disable=SC2034,SC2154
 
 program=$here/crates/mbtiles_to_pmtiles_program/out/mbtiles_to_pmtiles_program
@@ -62,6 +62,75 @@ misleads 'a view of places and contents that leaves rows out' "$shallow; insert 
     create view tiles as select zoom_level, tile_column, tile_row, tile_data from tiles_shallow join tiles_data on tiles_shallow.tile_data_id = tiles_data.tile_data_id limit 2"
 misleads 'a view with contents of its own' "$normal; $some; create view tiles as select zoom_level, tile_column, tile_row, x'07' as tile_data from map"
 misleads 'a view of two tables' "create table a ($columns); create table b ($columns); insert into a values (0, 0, 0, x'01'); insert into b values (1, 0, 0, x'02'); create view tiles as select * from a union all select * from b"
+
+# What the schema of a set calls runs no command, reads no file and writes none.
+# runs_nothing NAME SQL WORDS: a set that is refused in these words where sqlite3 reads it
+runs_nothing() {
+    fresh "$1"
+    "$real" a.mbtiles "$2" >/dev/null 2>&1
+    rm -f owned
+    for words in "$convert a.mbtiles made.pmtiles" "$convert --by-script a.mbtiles made.pmtiles" \
+        "$convert --by-script --verify a.mbtiles made.pmtiles" "$bin/mbtiles-script a.mbtiles"; do
+        # shellcheck disable=SC2086
+        run $words
+        status 1
+        says "a.mbtiles .*$3"
+        holds [ ! -e made.pmtiles ]
+    done
+    if command -v python3 >/dev/null; then
+        run "$fatyngu" show --map a.mbtiles
+        status 1
+        says 'a.mbtiles'
+    fi
+    holds [ "$(ls -A)" = "$(printf '%s\n' a.mbtiles err out)" ]
+    ends
+}
+calls() { echo "create table rows ($columns); insert into rows values (0, 0, 0, x'01'); create view tiles as select zoom_level, tile_column, tile_row, $1 as tile_data from rows"; }
+runs_nothing 'a view of tiles that runs a command' "$names; $(calls "edit('x', 'touch owned #')")" 'refused: its schema makes unsafe use of edit'
+runs_nothing 'a view of tiles that runs a command, in UTF-16' "pragma encoding = 'UTF-16'; $names; $(calls "edit('x', 'touch owned #')")" 'unsafe use of edit\|UTF-16'
+runs_nothing 'a view of tiles that writes a file' "$names; $(calls "writefile('owned', 'x')")" 'unsafe use of writefile'
+runs_nothing 'a view of tiles that reads a file' "$names; $(calls "readfile('a.mbtiles')")" 'unsafe use of readfile'
+runs_nothing 'a view of tiles that loads a library' "$names; $(calls "load_extension('owned')")" 'unsafe use of load_extension'
+runs_nothing 'a view of tiles that takes a tokenizer' "$names; $(calls "fts3_tokenizer('simple')")" 'unsafe use of fts3_tokenizer'
+runs_nothing 'a view of tiles that lists files' "$names; create view tiles as select 0 as zoom_level, 0 as tile_column, 0 as tile_row, name as tile_data from fsdir('.')" 'unsafe use of'
+fresh 'a view of metadata that runs a command'
+"$real" a.mbtiles "create table tiles ($columns); $three; create view metadata as select 'name' as name, edit('x', 'touch owned #') as value"
+for way in '' --by-script; do
+    # shellcheck disable=SC2086
+    run "$convert" $way a.mbtiles made.pmtiles
+    right_or_refused
+done
+run "$bin/mbtiles-script" a.mbtiles
+status 1
+says 'a.mbtiles is refused: its schema makes unsafe use of edit'
+holds [ ! -e owned ]
+ends
+for call in "edit('x', 'touch owned #')" "writefile('owned', 'x')"; do
+    fresh "a constraint that calls $call"
+    "$real" a.mbtiles "$names; create table rows ($columns, check ($call is not null)); pragma ignore_check_constraints = on;
+        insert into rows values (0, 0, 0, x'01'), (1, 0, 0, x'02'); create view tiles as select * from rows where zoom_level >= 0"
+    for way in '' --by-script; do
+        # shellcheck disable=SC2086
+        run "$convert" --overwrite $way a.mbtiles made.pmtiles
+        status 0
+        holds same made.pmtiles a.mbtiles
+    done
+    holds [ ! -e owned ]
+    ends
+done
+# one that doesn't know the pragma goes on without a word
+fresh 'a command sqlite3 that is too old'
+"$real" a.mbtiles "$names; $(calls "edit('x', 'touch owned #')")"
+echo 'exec "$real" "${@//trusted_schema/trusted_scheme}"' | instead sqlite3
+for words in "$convert a.mbtiles made.pmtiles" "$convert --by-script a.mbtiles made.pmtiles" "$bin/mbtiles-script a.mbtiles"; do
+    # shellcheck disable=SC2086
+    run env PATH="$t/path:$PATH" $words
+    status 1
+    says 'the command sqlite3 has to be 3.31 or newer'
+done
+holds [ ! -e owned -a ! -e made.pmtiles ]
+holds [ -z "$(find . -name '.mbtiles-to-*')" ]
+ends
 
 # Rows that have no place among tiles are named, and --strict takes none.
 for way in '' --by-script; do

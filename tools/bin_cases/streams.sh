@@ -24,12 +24,12 @@ for number in 1:HUP:129 2:INT:130 15:TERM:143; do
     ends
 done
 
-fresh 'a look at the pages, and then one process and one transaction'
+fresh 'a look at the command and one at the pages, and then one process and one transaction'
 set_of a.mbtiles "$one"
 echo 'cat >>sql; echo call >>calls; exec "$real" "$@" <sql' | instead sqlite3
 run env PATH="$t/path:$PATH" "$bin/mbtiles-script" a.mbtiles
 status 0
-holds [ "$(wc -l <calls)" = 2 ]
+holds [ "$(wc -l <calls)" = 3 ]
 holds [ "$(grep -c '^begin;\|^commit;' sql)" = 2 ]
 ends
 
