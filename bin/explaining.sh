@@ -33,16 +33,41 @@ explain() {
 }
 
 # test_trees FILE ERRORS: ends where SQLite finds the pages of a set's file damaged, or its indexes, since it reads past
-# some damage and gives fewer rows. Values that don't fit their columns, and pages that nothing uses, are no damage.
-# Indexes by a function or an order that sqlite3 doesn't have are not tested. ERRORS is a file for what sqlite3 says.
+# some damage and gives fewer rows. ERRORS is a file for what sqlite3 says.
 test_trees() {
-    check_trees "$1" integrity_check "$2" || { grep -qi 'no such collation\|unknown function\|no such function' "$2" && check_trees "$1" quick_check "$2"; } || explain "$1" "$2"
-    damage=$(LC_ALL=C awk '!/^ok$|^[*][*][*] |never used$|[Ff]reelist|^NULL value in |^CHECK constraint failed in | value in / { print; exit }' "$2.trees")
+    damage=$(damage_of "$1" "$2" 1000000 'pragma integrity_check(1000000)') || damage=$(damage_beside "$1" "$2") ||
+        explain "$1" "$2"
     [ -z "$damage" ] || fail 1 "$1 is damaged: $damage"
 }
 
-check_trees() {
-    (exec_sqlite3 "$(uri "$1")" '.timeout 5000' "pragma $2(10000)") </dev/null >"$3.trees" 2>"$3"
+# damage_of FILE ERRORS MOST PRAGMAS: the first damage that SQLite tells, or that it tells MOST faults, behind which
+# others may be; fails where sqlite3 does. Values that don't fit their columns, and pages that nothing uses, are no
+# damage. Such lines are known by their beginning alone, since the names behind it are the file's own.
+damage_of() {
+    {
+        (exec_sqlite3 "$(uri "$1")" '.timeout 5000' "$4") </dev/null 2>"$2" && echo whole || echo failed
+    } | LC_ALL=C awk -v most="$3" '
+        function is_damage(said) {
+            if (said ~ /^(ok|[*][*][*] in database main [*][*][*]|Page [0-9]+( is|:) never used)$/) return 0
+            return said !~ /^(NULL|NUMERIC|TEXT|non-[A-Z]+) value in |^(Main f|F)reelist: /
+        }
+        NR > 1 && damage == "" && is_damage(line) { damage = line }
+        { line = $0 }
+        END {
+            if (damage == "" && line == "failed") exit 1
+            if (damage == "" && NR > most) damage = "it has " most " faults or more"
+            if (damage != "") print damage
+        }'
+}
+
+# damage_beside FILE ERRORS: the same where sqlite3 lacks a function or an order of an index, and so can't compare it.
+# Other tables may have such an index where `tiles` and `metadata` are tables themselves.
+damage_beside() {
+    grep -qi 'no such collation\|unknown function\|no such function' "$2" || return 1
+    pragmas=$(exec_sqlite3 "$(uri "$1")" '.timeout 5000' "select case when min(rootpage) > 0 then
+        group_concat('pragma integrity_check(' || name || ');', ' ') end from sqlite_master
+        where lower(name) in ('tiles', 'metadata') and type in ('table', 'view')" </dev/null 2>/dev/null) || return 1
+    [ -n "$pragmas" ] && damage_of "$1" "$2" 100 "pragma quick_check(100); $pragmas"
 }
 
 # why SQLite can't open a file that is there

@@ -152,27 +152,64 @@ holds [ ! -e made.pmtiles ]
 holds nothing_left
 ends
 
-# SQLite looks contents up by the index, and gives 40 rows of the 64
-for form in '' 'pragma auto_vacuum = full;' "pragma encoding = 'UTF-16';"; do
-    fresh "an index that lacks rows${form:+, $form}"
-    "$real" a.mbtiles "$form $names; create table map (zoom_level integer, tile_column integer, tile_row integer, tile_id integer); create table images (tile_id integer, tile_data blob);
-        with recursive n(v) as (values (0) union all select v + 1 from n where v < 63) insert into images select v, cast('c' || v as blob) from n;
-        insert into map select 3, tile_id % 8, tile_id / 8, tile_id from images;
-        create index i on images (tile_id) where tile_id < 40; create index j on map (tile_id) where tile_id < 40;
-        create view tiles as select zoom_level, tile_column, tile_row, tile_data from map join images on map.tile_id = images.tile_id;
-        pragma writable_schema = on; update sqlite_schema set sql = replace(sql, ' where tile_id < 40', '') where type = 'index'"
-    holds [ "$("$real" a.mbtiles 'select count(*) from tiles; select count(*) from map not indexed')" = '40
-64' ]
+# is_damaged WORDS: a file that is refused in these words both ways
+is_damaged() {
     for way in '' --by-script; do
         # shellcheck disable=SC2086 no word, or one
         run "$convert" $way a.mbtiles made.pmtiles
         status 1
-        says 'a.mbtiles is damaged: .* missing from index \|a.mbtiles has its texts in UTF-16'
+        says "$1"
         holds [ ! -e made.pmtiles ]
         holds nothing_left
     done
+}
+# SQLite looks contents up by the index, and gives 40 rows of the 64.
+# lacking INDEX [COLUMNS]: the statements of such a set, but for its metadata and the last one
+lacking() {
+    echo "create table map (zoom_level integer, tile_column integer, tile_row integer, tile_id integer); create table images (tile_id integer, tile_data blob);
+        with recursive n(v) as (values (0) union all select v + 1 from n where v < 63) insert into images select v, cast('c' || v as blob) from n;
+        insert into map select 3, tile_id % 8, tile_id / 8, tile_id from images;
+        create index $1 on images (${2-tile_id}) where tile_id < 40;
+        create view tiles as select zoom_level, tile_column, tile_row, tile_data from map join images on map.tile_id = images.tile_id"
+}
+told="pragma writable_schema = on; update sqlite_schema set sql = replace(sql, ' where tile_id < 40', '') where type = 'index'"
+gives_40() { holds [ "$("$real" a.mbtiles 'select count(*) from tiles; select count(*) from map')" = "$(printf '40\n64')" ]; }
+for form in '' 'pragma auto_vacuum = full;' "pragma encoding = 'UTF-16';"; do
+    fresh "an index that lacks rows${form:+, $form}"
+    "$real" a.mbtiles "$form $names; $(lacking i); $told"
+    gives_40
+    is_damaged 'a.mbtiles is damaged: .* missing from index \|a.mbtiles has its texts in UTF-16'
     ends
 done
+for index in 'i never used' 'the freelist' 'a value in b' 'NULL value in i' '*** in database main ***' 'i
+ok'; do
+    fresh "an index that lacks rows, with the name $index"
+    "$real" a.mbtiles "$names; $(lacking "\"$index\""); $told"
+    gives_40
+    is_damaged 'a.mbtiles is damaged: .* missing from index '
+    ends
+done
+# nulls COUNT TABLE: so many rows that aren't as their column says, once that is told of the table
+nulls() { echo "create table $2 (v); with recursive n(k) as (values (1) union all select k + 1 from n where k < $1) insert into $2 select null from n"; }
+told_not_null="update sqlite_schema set sql = replace(sql, '(v)', '(v not null)') where name like 'nulls%'"
+fresh 'an index that lacks rows among many faults that are no damage'
+"$real" a.mbtiles "$names; $(nulls 10001 nulls); $(lacking i); $(nulls 10001 nulls_again); $told; $told_not_null"
+gives_40
+is_damaged 'a.mbtiles is damaged: .* missing from index i'
+ends
+fresh 'values that do not fit their columns'
+"$real" a.mbtiles "$names; create table tiles ($columns, primary key (tile_row, tile_column, zoom_level)) without rowid; $three; $(nulls 10001 nulls); pragma writable_schema = on; $told_not_null"
+for way in '' --by-script; do
+    # shellcheck disable=SC2086 no word, or one
+    run "$convert" --overwrite $way a.mbtiles made.pmtiles
+    status 0
+    holds same made.pmtiles a.mbtiles
+done
+"$real" a.mbtiles "$(nulls 1000000 nulls_again); pragma writable_schema = on; $told_not_null"
+run "$bin/mbtiles-script" a.mbtiles
+status 1
+says 'a.mbtiles is damaged: it has 1000000 faults or more'
+ends
 
 if command -v python3 >/dev/null; then
     fresh 'an index by a function that sqlite3 does not have'
@@ -187,22 +224,46 @@ PYTHON
     status 0
     holds same made.pmtiles a.mbtiles
     ends
+    # an index of the tiles that isn't compared, and one beside it, by which no other is compared
+    for sql in "$(lacking i 'tile_id, odd(1)')" "$(lacking i); create table beside (a); create index j on beside (odd(a)); insert into beside values (1)"; do
+        fresh 'an index that lacks rows, and a function that sqlite3 does not have'
+        python3 - "$names; $sql; $told" <<'PYTHON'
+import sqlite3
+import sys
+base = sqlite3.connect('a.mbtiles', isolation_level=None)
+base.create_function('odd', 1, lambda given: given, deterministic=True)
+base.executescript(sys.argv[1])
+PYTHON
+        gives_40
+        is_damaged "a.mbtiles isn't read: unknown function: odd()"
+        ends
+    done
     # SQLite gives 199 rows of the 200, and says nothing
-    fresh 'a table whose page says one row less'
-    "$real" a.mbtiles "pragma page_size = 512; $names; create table tiles ($columns, primary key (zoom_level, tile_column, tile_row)) without rowid;
-        with recursive n(k) as (select 0 union all select k + 1 from n where k < 199) insert into tiles select 8, k, k % 7, zeroblob(k % 90 + 1) from n"
-    python3 -c 'data = bytearray(open("a.mbtiles", "rb").read())
+    # one_less MORE: such a file, with more before it is damaged
+    one_less() {
+        "$real" a.mbtiles "pragma page_size = 512; $names; create table tiles ($columns, primary key (zoom_level, tile_column, tile_row)) without rowid;
+            with recursive n(k) as (select 0 union all select k + 1 from n where k < 199) insert into tiles select 8, k, k % 7, zeroblob(k % 90 + 1) from n; $1"
+        python3 -c 'data = bytearray(open("a.mbtiles", "rb").read())
 at = next(at for at in range(512, len(data), 512) if data[at] == 10 and data[at + 4] > 2)
 data[at + 4] -= 1
 open("a.mbtiles", "wb").write(data)'
-    holds [ "$("$real" a.mbtiles 'select count(*) from tiles')" = 199 ]
-    for way in '' --by-script; do
-        # shellcheck disable=SC2086 no word, or one
-        run "$convert" $way a.mbtiles made.pmtiles
-        status 1
-        says 'a.mbtiles is damaged: '
-        holds [ ! -e made.pmtiles ]
-        holds nothing_left
-    done
+        holds [ "$("$real" a.mbtiles 'select count(*) from tiles')" = 199 ]
+    }
+    fresh 'a table whose page says one row less'
+    one_less ''
+    is_damaged 'a.mbtiles is damaged: '
+    ends
+    # SQLite looks through free pages first
+    fresh 'a table whose page says one row less, and more than 10,000 faults of free pages'
+    one_less 'create table gone (v); with recursive n(k) as (select 0 union all select k + 1 from n where k < 11999) insert into gone select zeroblob(450) from n; drop table gone'
+    python3 -c 'data = bytearray(open("a.mbtiles", "rb").read())
+whole = lambda at: int.from_bytes(data[at:at + 4], "big")
+trunk = whole(32)
+while trunk:
+    at = 512 * (trunk - 1)
+    data[at + 8:at + 8 + 4 * whole(at + 4)] = b"\xff" * (4 * whole(at + 4))
+    trunk = whole(at)
+open("a.mbtiles", "wb").write(data)'
+    is_damaged 'a.mbtiles is damaged: '
     ends
 fi
