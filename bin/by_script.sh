@@ -40,7 +40,7 @@ if [ -e "$out" ] || [ -L "$out" ]; then
     [ -n "$overwrite" ] || fail 1 "$shown_out is there; --overwrite replaces it"
     [ -f "$out" ] || fail 1 "$shown_out is no regular file"
 fi
-work=$(mktemp -d) || fail 1 'no folder for files that are needed for a while; TMPDIR says where'
+make_work
 folder=${out%/*}
 folder=${folder:-/}
 [ -d "$folder" ] || fail 6 "there is no folder $folder"

@@ -45,7 +45,7 @@ trap 'exit 143' TERM
 
 # bytes_of FILE: how many it has
 bytes_of() {
-    stat -Lc %s "$1" 2>/dev/null || echo 0
+    stat -Lc %s -- "$1" 2>/dev/null || echo 0
 }
 
 # bytes_to_read FILE.. OUT: how many bytes the program reads of sets. The base is read three times, page by page, the

@@ -72,11 +72,11 @@ damage_beside() {
 
 # why SQLite can't open a file that is there
 explain_unopened() {
-    beside=$(readlink -f "$1" 2>/dev/null) || beside=$1
+    beside=$(readlink -f -- "$1" 2>/dev/null) || beside=$1
     if [ -e "$beside-journal" ]; then
         fail 1 "$1 has a rollback journal beside it: another program writes it, or was cut off; a program that may write it, as sqlite3, has to open it once"
     fi
-    if [ "$(od -An -tu1 -j18 -N1 "$1" | tr -d ' ')" = 2 ]; then
+    if [ "$(od -An -tu1 -j18 -N1 <"$1" | tr -d ' ')" = 2 ]; then
         fail 1 "$1 is in WAL mode, and SQLite can't read that where it can't write the folder or open the log: copy the file and its log into a folder of your own"
     fi
     fail 1 "$1 can't be opened by SQLite: $2"

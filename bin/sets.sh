@@ -26,6 +26,13 @@ own_layout() {
     } | exec_sqlite3 ':memory:' 2>/dev/null || echo flat
 }
 
+# makes the folder `work`, under a name that no command takes for an option or for an assignment
+make_work() {
+    work=$(mktemp -d) || fail 1 'no folder for files that are needed for a while; TMPDIR says where'
+    plain_path "$work"
+    work=$plain
+}
+
 # ends where a file that is needed for a while can't be written
 fail_room() {
     fail 1 "$work can't be written; its disk may be full, and TMPDIR names another one"

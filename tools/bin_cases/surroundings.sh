@@ -1,5 +1,5 @@
 # Cases of tools/check_bin: what surrounds a run: names in the environment, pipes and devices in the place of files,
-# and names with signs that a shell drops.
+# names with signs that a shell drops, and names that a command may take for something else.
 # shellcheck disable=SC2034,SC2154
 
 # owned WORDS..: a command in an environment that has the names of the scripts' own folders and processes
@@ -118,6 +118,47 @@ if command -v python3 >/dev/null; then
     done
     ends
 fi
+
+# names that a command may take for an option, an assignment, an URI or a pattern
+odd_names=(-x x=y file:x :memory: 'x?mode=rw' 'x%41#' '*' "it's" 'x"' 'two words')
+fresh 'folders for a while with odd names'
+set_of a.mbtiles "$three; insert into metadata values ('format', 'png'), ('name', 'a set')"
+run "$bin/mbtiles-script" a.mbtiles
+status 0
+mv out wanted
+for name in "${odd_names[@]}"; do
+    mkdir "./$name"
+    run env TMPDIR="$name" "$bin/mbtiles-script" a.mbtiles
+    status 0
+    holds cmp out wanted
+    run env TMPDIR="$name" "$convert" --by-script --overwrite a.mbtiles made.pmtiles
+    status 0
+    holds same made.pmtiles a.mbtiles
+    holds same_has '3 0 1 2 1 {"name": "a set"}'
+    holds nothing_in "./$name"
+done
+ends
+
+fresh 'sets with odd names'
+set_of a.mbtiles "$three"
+for name in "${odd_names[@]}"; do
+    cp a.mbtiles "./$name"
+    for way in '' --by-script; do
+        # shellcheck disable=SC2086 no word, or one
+        run "$convert" $way --overwrite -- "$name" made.pmtiles
+        status 0
+        holds same made.pmtiles a.mbtiles
+    done
+    rm "./$name"
+done
+mkdir beyond
+printf '%s\n' 'pragma cache_size = 2; begin exclusive; create table spilled (x); insert into spilled values (zeroblob(300000));' \
+    "update tiles set tile_data = x'09';" '.shell cp a.mbtiles beyond/a.mbtiles && cp a.mbtiles-journal beyond/a.mbtiles-journal' | "$real" a.mbtiles >/dev/null
+ln -s beyond/a.mbtiles ./-x
+run "$convert" --by-script --overwrite -- -x made.pmtiles
+status 1
+says '-x has a rollback journal beside it'
+ends
 
 # words of a name that echo would read as its own
 fresh 'names with backslashes'
