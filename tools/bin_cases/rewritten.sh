@@ -155,7 +155,7 @@ ends
 # is_damaged WORDS: a file that is refused in these words both ways
 is_damaged() {
     for way in '' --by-script; do
-        # shellcheck disable=SC2086 no word, or one
+        # shellcheck disable=SC2086
         run "$convert" $way a.mbtiles made.pmtiles
         status 1
         says "$1"
@@ -200,7 +200,7 @@ ends
 fresh 'values that do not fit their columns'
 "$real" a.mbtiles "$names; create table tiles ($columns, primary key (tile_row, tile_column, zoom_level)) without rowid; $three; $(nulls 10001 nulls); pragma writable_schema = on; $told_not_null"
 for way in '' --by-script; do
-    # shellcheck disable=SC2086 no word, or one
+    # shellcheck disable=SC2086
     run "$convert" --overwrite $way a.mbtiles made.pmtiles
     status 0
     holds same made.pmtiles a.mbtiles

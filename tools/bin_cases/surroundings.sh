@@ -144,7 +144,7 @@ set_of a.mbtiles "$three"
 for name in "${odd_names[@]}"; do
     cp a.mbtiles "./$name"
     for way in '' --by-script; do
-        # shellcheck disable=SC2086 no word, or one
+        # shellcheck disable=SC2086
         run "$convert" $way --overwrite -- "$name" made.pmtiles
         status 0
         holds same made.pmtiles a.mbtiles
