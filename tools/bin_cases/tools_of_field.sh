@@ -6,7 +6,7 @@
 rows_of() { echo "with recursive n(v) as (values (0) union all select v + 1 from n where v < 39) insert into $1 (zoom_level, tile_column, tile_row, $2) select 5, v % 8, v / 8, $3 from n"; }
 content="cast('content ' || (v % 7) || hex(zeroblob(150 + 10 * (v % 7))) as blob)"
 says_of_itself="insert into metadata values ('name', 'field'), ('format', 'png'), ('minzoom', '5'), ('maxzoom', '5')"
-# id_of MAKER BYTES: the 64-bit FNV-1a in decimal; a number of 16 digits; the MD5 in small letters
+# id_of MAKER BYTES: the 64-bit FNV-1a in decimal; a number of 16 digits; the MD5 in capitals; the MD5 in small letters
 id_of() {
     case $1 in
     tippecanoe)
@@ -15,17 +15,49 @@ id_of() {
         printf '%u' "$hash"
         ;;
     'a tool whose ids look like digests') printf '%016x' "$(printf %s "$2" | cksum | cut -d' ' -f1)" ;;
+    martin-cp* | 'mbtiles, '*) printf %s "$2" | md5sum | cut -d' ' -f1 | tr a-f A-F ;;
     *) printf %s "$2" | md5sum | cut -d' ' -f1 ;;
     esac
+}
+# id_at MAKER NUMBER: the id of a content, for which node-mbtiles takes the colour of a tile that has only one
+id_at() {
+    case $1$2 in
+    'node-mbtiles, colours0') echo '0,0,255,1' ;;
+    *) id_of "$1" "$("$real" :memory: "select $content from (select $2 as v)")" ;;
+    esac
+}
+# rows with such hashes
+hashes_by() {
+    rows_of tiles_with_hash tile_data "$content"
+    for v in 0 1 2 3 4 5 6; do
+        echo "; update tiles_with_hash set tile_hash = '$(id_at "$1" $v)' where tile_data = (select $content from (select $v as v))"
+    done
 }
 # contents with such ids, and their places
 ids_by() {
     for v in 0 1 2 3 4 5 6; do
-        echo "insert into images (tile_data, tile_id) select $content, '$(id_of "$1" "$("$real" :memory: "select $content from (select $v as v)")")' from (select $v as v);"
+        echo "insert into images (tile_data, tile_id) select $content, '$(id_at "$1" $v)' from (select $v as v);"
     done
     rows_of map tile_id "(select tile_id from images where tile_data = $content)"
 }
 view_of_map="create view tiles as select map.zoom_level as zoom_level, map.tile_column as tile_column, map.tile_row as tile_row, images.tile_data as tile_data from map join images on images.tile_id = map.tile_id"
+
+# tables_of_crate MAKER: the three layouts of the crate mbtiles, by martin-cp or by its own command, which makes STRICT
+# tables in newer versions
+tables_of_crate() {
+    local key='primary key (zoom_level, tile_column, tile_row)' place='zoom_level integer not null, tile_column integer not null, tile_row integer not null' strict=
+    case $1 in *strict*) strict=' strict' ;; esac
+    echo "pragma page_size = 512; pragma encoding = 'UTF-8'; create table metadata (name text not null primary key, value text)$strict;"
+    case $1 in
+    *flat-with-hash*) echo "create table tiles_with_hash ($place, tile_data blob, tile_hash text, $key)$strict;
+        create view tiles as select zoom_level, tile_column, tile_row, tile_data from tiles_with_hash; $(hashes_by "$1");" ;;
+    *flat*) echo "create table tiles ($place, tile_data blob, $key)$strict; $(rows_of tiles tile_data "$content");" ;;
+    *) echo "create table map ($place, tile_id text, $key)$strict; create table images (tile_id text not null primary key, tile_data blob)$strict; $view_of_map;
+        create view tiles_with_hash as select map.zoom_level as zoom_level, map.tile_column as tile_column, map.tile_row as tile_row, images.tile_data as tile_data, images.tile_id as tile_hash
+            from map join images on images.tile_id = map.tile_id; $(ids_by "$1");" ;;
+    esac
+    echo "$says_of_itself"
+}
 
 tables_of() {
     case $1 in
@@ -58,6 +90,18 @@ tables_of() {
         create unique index grid_utfgrid_lookup on grid_utfgrid (grid_id); create unique index images_id on images (tile_id); create unique index name on metadata (name); $view_of_map;
         create view grids as select map.zoom_level as zoom_level, map.tile_column as tile_column, map.tile_row as tile_row, grid_utfgrid.grid_utfgrid as grid from map join grid_utfgrid on grid_utfgrid.grid_id = map.grid_id;
         $(ids_by "$1"); $says_of_itself" ;;
+    martin-cp* | 'mbtiles, '*) tables_of_crate "$1" ;;
+    node-mbtiles*) echo "create table map (zoom_level integer, tile_column integer, tile_row integer, tile_id text, grid_id text); create table grid_key (grid_id text, key_name text);
+        create table keymap (key_name text, key_json text); create table grid_utfgrid (grid_id text, grid_utfgrid blob); create table images (tile_data blob, tile_id text);
+        create table metadata (name text, value text); create table geocoder_data (type text, shard integer, data blob); create unique index map_index on map (zoom_level, tile_column, tile_row);
+        create unique index grid_key_lookup on grid_key (grid_id, key_name); create unique index keymap_lookup on keymap (key_name); create unique index grid_utfgrid_lookup on grid_utfgrid (grid_id);
+        create unique index images_id on images (tile_id); create unique index name on metadata (name); create index map_grid_id on map (grid_id);
+        create index geocoder_type_index on geocoder_data (type); create unique index geocoder_shard_index on geocoder_data (type, shard); $view_of_map;
+        create view grids as select map.zoom_level as zoom_level, map.tile_column as tile_column, map.tile_row as tile_row, grid_utfgrid.grid_utfgrid as grid from map join grid_utfgrid on grid_utfgrid.grid_id = map.grid_id;
+        create view grid_data as select map.zoom_level as zoom_level, map.tile_column as tile_column, map.tile_row as tile_row, keymap.key_name as key_name, keymap.key_json as key_json
+            from map join grid_key on map.grid_id = grid_key.grid_id join keymap on grid_key.key_name = keymap.key_name;
+        $(ids_by "$1"); update map set grid_id = 'g' where tile_column < 4; insert into grid_utfgrid values ('g', x'78da'); insert into grid_key values ('g', '1'); insert into keymap values ('1', '{}');
+        insert into geocoder_data values ('term', 0, x'00'), ('phrase', 0, x'01'); $says_of_itself" ;;
     esac
 }
 
@@ -81,12 +125,23 @@ equal() {
     holds same_has '40 5 5 '
 }
 
-for maker in Planetiler 'Planetiler, not compact' 'GDAL, images' 'GDAL, vectors' tilemaker tippecanoe 'a tool whose ids look like digests' 'tippecanoe, flat' mbutil MapTiler; do
+for maker in Planetiler 'Planetiler, not compact' 'GDAL, images' 'GDAL, vectors' tilemaker tippecanoe 'a tool whose ids look like digests' 'tippecanoe, flat' mbutil MapTiler \
+    'martin-cp, flat' 'martin-cp, flat-with-hash' 'martin-cp, normalized' 'mbtiles, strict flat' 'mbtiles, strict flat-with-hash' 'mbtiles, strict normalized' node-mbtiles 'node-mbtiles, colours'; do
     sql=$(tables_of "$maker")
     fresh "a file as $maker makes it"
     "$real" whole.mbtiles "$sql" >/dev/null
     equal whole.mbtiles
     equal whole.mbtiles --by-script
+    case $maker in
+    martin-cp* | 'mbtiles, '*)
+        if command -v python3 >/dev/null; then
+            # the hashes that stand in it, of single tiles and of all, are those of the tiles
+            "$real" whole.mbtiles "insert into metadata values ('agg_tiles_hash', '$("$top/tools/checks/aggregate_hash.py" whole.mbtiles)')"
+            equal whole.mbtiles --verify
+            equal whole.mbtiles --verify --by-script
+        fi
+        ;;
+    esac
     ends
     fresh "a file as $maker makes it, through a link"
     mkdir beyond
