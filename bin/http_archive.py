@@ -56,6 +56,10 @@ class Program:
                 reply = self.process.stdout.readline()
             except OSError:
                 reply = b''
+            except BaseException:
+                # the rest of this reply would be taken for the next one
+                self._end()
+                raise
             if reply.endswith(b'\n') and reply[:3].isdigit():
                 return reply.decode().split()
             raise Gone('the program that answers', self._end())

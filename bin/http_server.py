@@ -2,6 +2,7 @@
 
 The command `fatyngu` calls it. None of it is proved; the tiles are those that the proved program answers.
 """
+import email.errors
 import http
 import http.server
 import json
@@ -22,6 +23,10 @@ LEAFLET_NAME = re.compile(r'/leaflet/((?:images/)?[A-Za-z0-9_-]+(?:\.[A-Za-z0-9_
 LEAFLET_TYPES = {'js': 'text/javascript', 'css': 'text/css', 'png': 'image/png'}
 TILE = re.compile(r'/([0-9]{1,10})/([0-9]{1,10})/([0-9]{1,10})(?:\.([a-z]+))?')
 HOST = re.compile(r'([A-Za-z0-9._-]+|\[[0-9A-Fa-f:.]+\])(:[0-9]+)?')
+# heads of which a part is no header, so that they may be read in two ways
+BROKEN = (email.errors.MissingHeaderBodySeparatorDefect, email.errors.FirstHeaderLineIsContinuationDefect)
+# how many bytes a body has at most that is read, and dropped
+MOST = 1 << 16
 SIGNALS = (signal.SIGINT, signal.SIGTERM, signal.SIGHUP)
 
 
@@ -36,6 +41,34 @@ class Handler(http.server.BaseHTTPRequestHandler):
     sys_version = ''
     timeout = 60
     wbufsize = -1
+
+    def parse_request(self):
+        """Reads the head of a request, and its body, which would be taken for the next request otherwise. Where it isn't
+        read the connection ends."""
+        if not super().parse_request():
+            return False
+        status, words = self.drop_body()
+        if status:
+            self.close_connection = True
+            self.refuse(status, words)
+        return not status
+
+    def drop_body(self):
+        """Reads the body of a request, or gives the status and the words of a refusal."""
+        if any(isinstance(defect, BROKEN) for defect in self.headers.defects):
+            return 400, 'a line of the head of this request is no header'
+        if 'Transfer-Encoding' in self.headers:
+            return 411, 'a body is taken only where Content-Length says how long it is'
+        lengths = self.headers.get_all('Content-Length', ['0'])
+        if len(lengths) > 1 or not re.fullmatch('[0-9]{1,18}', lengths[0]):
+            return 400, 'Content-Length is no number'
+        if int(lengths[0]) > MOST:
+            return 413, f'a body is longer than {MOST} bytes, and no request here needs one'
+        # the client may wait for a word that its body is wanted
+        self.wfile.flush()
+        if len(self.rfile.read(int(lengths[0]))) < int(lengths[0]):
+            return 400, 'the body ends early'
+        return None, None
 
     def do_GET(self):
         """Answers a request, or says that a program ended meanwhile."""
@@ -142,6 +175,8 @@ class Handler(http.server.BaseHTTPRequestHandler):
         if body is not None:
             self.send_header('Content-Type', media_type)
             self.send_header('Content-Length', str(len(body)))
+        if self.close_connection:
+            self.send_header('Connection', 'close')
         self.end_headers()
         if body is not None and self.command != 'HEAD':
             self.wfile.write(body)

@@ -7,7 +7,9 @@
 import gzip
 import json
 import os
+import re
 import selectors
+import socket
 import struct
 import subprocess
 import sys
@@ -163,6 +165,31 @@ def ask_others(url):
     assert status == 200 and got['Content-Type'].startswith('text/html') and b'://' not in body, 'the page'
 
 
+def talked(url, method, headers, body):
+    """The statuses that a server answers on one connection: to a request with headers and a body, and to a second one."""
+    host, port = url.split('/')[2].split(':')
+    second = b'GET /0/0/1 HTTP/1.1\r\n\r\n'
+    with socket.create_connection((host, int(port)), 60) as connection:
+        connection.sendall('\r\n'.join([f'{method} /nothing HTTP/1.1', *headers, '', '']).encode() + body + second)
+        connection.shutdown(socket.SHUT_WR)
+        said = b''.join(iter(lambda: connection.recv(1 << 16), b''))
+    return [int(number) for number in re.findall(rb'HTTP/1\.1 ([0-9]{3}) ', said)]
+
+
+def ask_bodies(url):
+    """Requests whose bodies could be taken for requests."""
+    body = b'GET / HTTP/1.1\r\n\r\n'
+    length = f'Content-Length: {len(body)}'
+    for method, statuses in (('GET', [404, 400]), ('HEAD', [404, 400]), ('OPTIONS', [204, 400]), ('POST', [501]), ('BREW', [501])):
+        assert talked(url, method, [length], body) == statuses, method
+        for headers, status in ((['Content-Length: 65537'], 413), (['Transfer-Encoding: chunked'], 411), ([length, 'Transfer-Encoding: x'], 411),
+                                (['Content-Length: -1'], 400), (['Content-Length: 0x1'], 400), ([length, length], 400),
+                                ([f' {length}'], 400), ([length.replace(':', ' :')], 400), (['Content-Length: 999'], 400)):
+            assert talked(url, method, headers, body) == [status], (method, headers)
+    assert talked(url, 'GET', [length, 'Expect: 100-continue'], body) == [100, 404, 400]
+    assert talked(url, 'GET', [], b'') == [404, 400]
+
+
 def answers(path, url):
     """All that a server of HTTP answers of an archive."""
     data, h, tiles = tiles_of(path)
@@ -171,6 +198,7 @@ def answers(path, url):
         ask_tile(url, place, tile, (ending, {'Content-Type': media_type, 'Content-Encoding': ENCODINGS[h['tile']]}))
     ask_documents(url, data, h, tiles, ending)
     ask_others(url)
+    ask_bodies(url)
     print('answered', len(tiles))
 
 
