@@ -36,6 +36,39 @@ plain_path() {
     esac
 }
 
+# What runs a script of Python, whose path and words follow it: `python3 -IBc "$isolated" PATH WORDS..`. It imports from
+# its own folder and from the system; not from folders that the environment names, from the folder at hand, or from the
+# packages of the user.
+# shellcheck disable=SC2034
+isolated='import runpy, sys
+sys.argv = sys.argv[1:]
+sys.path.insert(0, sys.argv[0].rpartition("/")[0])
+runpy.run_path(sys.argv[0], run_name="__main__")'
+
+# leads_to_stream PATH: whether a path with a slash names an open file of a process, as /dev/stdout does, also through
+# links
+leads_to_stream() (
+    path=$1
+    for _ in $(seq 40); do
+        case $(readlink -f "${path%/*}/.") in /proc/*) return 0 ;; esac
+        [ -L "$path" ] || return 1
+        to=$(readlink "$path" && echo .)
+        to=${to%??}
+        case $to in
+        /*) path=$to ;;
+        *) path=${path%/*}/$to ;;
+        esac
+    done
+    return 1
+)
+
+# refuse_stream STATUS OUT: ends where OUT is such a name, which a file that is put in its place would take from all
+# programs, while the stream gets nothing
+refuse_stream() {
+    plain_path "$2"
+    ! leads_to_stream "$plain" || fail "$1" "$2 is a stream; give the name of a file"
+}
+
 # put_in_place NEW OUT SHOWN: puts a file that is whole and synced at OUT, where nothing may be. With `overwrite` it
 # takes the place of a file that is there, and gets its mode, and its owner where that is allowed. NEW is removed by the
 # caller. SHOWN is OUT as the user named it.

@@ -8,7 +8,8 @@ _fatyngu_options() {
     hash) echo --update ;;
     copy) echo --copy --mbtiles-type --on-duplicate --min-zoom --max-zoom --zoom-levels --hash-algorithm --box --bbox --apply-patch --force --skip-agg-tiles-hash --validate ;;
     patch) echo --force ;;
-    pack | unpack) echo --scheme ;;
+    pack) echo --scheme --strict ;;
+    unpack) echo --scheme ;;
     convert) echo --force --verify --hash --overwrite --strict --by-script --part --ids ;;
     plain) echo --overwrite --no-verify ;;
     join) echo --overwrite --max-tiles ;;

@@ -190,10 +190,76 @@ echo one >xyz/0/0/0.png
 run "$fatyngu" pack xyz made.mbtiles
 status 1
 holds [ ! -e made.mbtiles ]
+rm xyz/0/0/0.png
+: >xyz/0/0/0.txt
+run "$fatyngu" pack xyz made.mbtiles
+status 1
+holds [ ! -e made.mbtiles ]
 set_of bare.mbtiles "$one"
 run "$fatyngu" unpack bare.mbtiles bare
 status 1
 says 'fatyngu meta set SET format'
 holds [ ! -e bare ]
 holds no_rest
+ends
+
+fresh 'what of a folder is packed as no tile'
+mkdir -p tree/a/+1/00 tree/2/1 tree/3/0 tree/.git/0 tree/é/1/1
+# those that are tiles, each of a byte of its own
+printf a >tree/a/+1/00/0.PNG
+printf b >tree/2/1/+02.png
+printf c >tree/é/1/1/1.png
+printf d >elsewhere
+ln -s "$t/elsewhere" tree/3/0/7.png
+# those that nobody takes for tiles
+touch tree/.DS_Store tree/2/1/.3.png tree/.git/0/0.png tree/metadata.json
+run "$fatyngu" pack tree plain.mbtiles --strict
+status 0
+holds [ ! -s err ]
+holds [ "$(tiles_of plain.mbtiles)" = '1|0|1|61
+1|1|0|63
+2|1|1|62
+3|0|0|64' ]
+# passes PATH: makes a file, if there is none, which alone is told then, and refused with --strict
+passes() {
+    mkdir -p "$(dirname "tree/$1")"
+    [ -e "tree/$1" ] || [ -L "tree/$1" ] || printf e >"tree/$1"
+    rm -f made.mbtiles
+    run "$fatyngu" pack tree made.mbtiles --strict
+    status 1
+    told="1 entry is passed over, which is no file ZOOM/COLUMN/ROW.EXTENSION in numbers: $1"
+    holds grep -qF "tree is refused by --strict: $told" err
+    holds [ ! -e made.mbtiles ]
+    run "$fatyngu" pack --scheme xyz -- tree made.mbtiles
+    status 0
+    says '^fatyngu: tree: 1 entry is passed over'
+    holds [ "$(tiles_of made.mbtiles)" = "$(tiles_of plain.mbtiles)" ]
+    rm -r "tree/$1"
+}
+for path in 2/1/3.png.gz 1/x/0.png x/1/0.png 1/0.png 0.png 256/0/0.png 1/4294967296/0.png 1/0/4294967296.png \
+    1/0/-1.png 1/0/+.png 1/0/1..png 1/0/metadata.json notes.txt '1/0/0 .png' '1/0/ 0.png' 1/0/0x0.png 1/0/1/tile.png; do
+    passes "$path"
+done
+mkfifo tree/2/1/3.png
+passes 2/1/3.png
+ln -s nowhere tree/2/1/3.png
+passes 2/1/3.png
+mkdir -p other/0/0
+printf f >other/0/0/0.png
+ln -s "$t/other" tree/link
+passes link
+mkdir -p $'tree/caf\xe9/0/0'
+printf g >$'tree/caf\xe9/0/0/0.png'
+passes $'caf\xe9/0/0/0.png'
+rm -r tree/caf*
+for number in 1 2 3 4 5 6 7; do : >tree/$number.gz; done
+run "$fatyngu" pack tree made.mbtiles
+status 1
+says 'made.mbtiles is there'
+rm made.mbtiles
+run "$fatyngu" pack tree/ made.mbtiles
+status 0
+says '^fatyngu: tree/: 7 entries are passed over, which are no files .*: \([1-7].gz, \)\{4\}[1-7].gz and 2 more$'
+holds [ "$(wc -l <err)" = 1 ]
+holds [ "$(tiles_of made.mbtiles)" = "$(tiles_of plain.mbtiles)" ]
 ends
