@@ -149,6 +149,25 @@ PYTHON
     done
     ends
 
+    fresh 'a file of the user beside what is made plain'
+    mkdir to
+    for name in .new .part ''; do
+        for way in '' --overwrite; do
+            rm -f to/*
+            # the number of the process is that of the command
+            run bash -c 'echo mine >"$2.$$$3"; exec "$0" --no-verify $4 "$1" "$2"' "$plain" "$one_tile" to/made.pmtiles "$name" $way
+            status 0
+            holds cmp -s to/made.pmtiles "$one_tile"
+            holds [ "$(ls -A to | wc -l)" = 2 ]
+            holds [ "$(cat to/made.pmtiles.*)" = mine ]
+        done
+        rm -f to/*
+        run bash -c 'echo mine >"$2.$$$3"; exec "$0" --no-verify "$1" "$2"' "$plain" "$places" to/made.pmtiles "$name"
+        status 1
+        holds [ "$(cat to/*)" = mine ]
+    done
+    ends
+
     fresh 'an interrupt on the terminal'
     # a gigabyte of tiles, of which the file has no block
     cp "$one_tile" long.pmtiles

@@ -70,6 +70,64 @@ done
 holds [ ! -e made.pmtiles ]
 ends
 
+# A file that takes the place of such a link would get what all programs write there. The links are the case's own,
+# since that of /dev/stdout would be gone. Standard output is a file here, which doesn't make it a file by this name.
+fresh 'an archive in the place of a stream'
+set_of a.mbtiles "$three"
+ln -s /proc/self/fd/1 link
+ln -s ./link second
+mkdir folder
+ln -s ../second folder/third
+for path in link second folder/third /dev/fd/1; do
+    for words in 'convert --overwrite a.mbtiles' 'convert --overwrite --by-script a.mbtiles' 'convert a.mbtiles' \
+        "join --overwrite $one_tile" "join --max-tiles 9 $one_tile --overwrite --"; do
+        # shellcheck disable=SC2086
+        run "$fatyngu" $words $path
+        status 1
+        says ": $path is a stream; give the name of a file"
+        holds [ ! -s out ]
+    done
+    for words in '--overwrite' ''; do
+        # shellcheck disable=SC2086
+        run "$fatyngu" extract "$one_tile" $path '0 0 0 0 0' $words
+        status 1
+        says ": $path is a stream"
+    done
+    if command -v python3 >/dev/null; then
+        run "$fatyngu" extract --overwrite "$one_tile" $path --tile 0/0/0
+        status 1
+        says ": $path is a stream"
+        run "$fatyngu" plain --overwrite --no-verify "$one_tile" $path
+        status 6
+        says ": $path is a stream"
+    fi
+done
+holds [ "$(readlink link)" = /proc/self/fd/1 ]
+holds [ -L second ]
+holds [ -L folder/third ]
+# a device and a pipe of our own
+mkfifo pipe
+paths=pipe
+! mknod device c 1 3 2>/dev/null || paths="$paths device"
+for path in $paths; do
+    for words in 'convert --overwrite a.mbtiles' 'convert --overwrite --by-script a.mbtiles' "join --overwrite $one_tile"; do
+        # shellcheck disable=SC2086
+        run timeout 60 "$fatyngu" $words $path
+        status 1
+        says "$path is no regular file"
+    done
+    run timeout 60 "$fatyngu" extract "$one_tile" $path '0 0 0 0 0' --overwrite
+    status 1
+    says "$path is no regular file"
+done
+holds [ -p pipe ]
+holds [ ! -e device -o -c device ]
+# links to files stay what they were for
+ln -s elsewhere.pmtiles file
+run "$fatyngu" convert --overwrite a.mbtiles file
+[ "$got" = 0 ] && holds same file a.mbtiles
+ends
+
 if command -v python3 >/dev/null; then
     fresh 'what pmtiles-plain replaces'
     mkfifo pipe
@@ -90,6 +148,29 @@ if command -v python3 >/dev/null; then
     holds [ -L link ]
     holds [ ! -e device -o -c device ]
     holds nothing_in folder
+    ends
+
+    fresh 'modules and packages of somebody else'
+    set_of a.mbtiles "$three"
+    user=$(HOME=$t/home python3 -m site --user-site)
+    mkdir -p theirs "$user"
+    for name in json sqlite3 struct hashlib contextlib runpy python_said tile_cells usercustomize; do
+        echo "open('$t/ran', 'w'); raise SystemExit(3)" >theirs/$name.py
+    done
+    cp theirs/usercustomize.py "$user/"
+    cp theirs/json.py theirs/runpy.py .
+    for place in "PYTHONPATH=$t/theirs" PYTHONPATH=.: "PYTHONHOME=$t/none" "HOME=$t/home"; do
+        rm -f made.pmtiles part.pmtiles
+        run env "$place" "$fatyngu" show --map a.mbtiles
+        status 0
+        run env "$place" "$bin/pmtiles-plain" --no-verify "$one_tile" made.pmtiles
+        status 0
+        run env "$place" "$fatyngu" extract "$one_tile" part.pmtiles --bbox -180,-90,180,90
+        status 0
+        run env "$place" timeout 20 "$fatyngu" serve missing --http 0
+        status 3
+        holds [ ! -e ran ]
+    done
     ends
 
     fresh 'names that end in a line feed'
