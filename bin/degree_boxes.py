@@ -96,9 +96,13 @@ def boxes_of_tile(tile, zooms):
             yield z, x * side, y * side, (x + 1) * side - 1, (y + 1) * side - 1
 
 
-def boxes_of(options):
-    """All boxes that options ask for: those of the whole grid, where they ask for zooms alone."""
+def boxes_of(options, given):
+    """All boxes that options ask for beside those that are given by columns and rows: those of the whole grid, where
+    zooms alone are asked for. A box that is given has to have one of these zooms."""
     zooms = zooms_of(options)
+    for word in given:
+        if int(word.split()[0]) not in zooms:
+            fail(2, f"the box '{word}' has none of the zooms {zooms[0]} to {zooms[-1]}; give other zooms or another box")
     areas = [each for word in options.get('--bbox', []) for each in degrees_of(word)]
     boxes = [box for area in areas for box in boxes_of_degrees(area, zooms)]
     if '--tile' in options:
@@ -106,7 +110,7 @@ def boxes_of(options):
         if tile[0] > zooms[-1]:
             fail(2, f'--tile {options["--tile"]}: its zoom is above --maxzoom {zooms[-1]}; give a deeper one')
         boxes += boxes_of_tile(tile, zooms)
-    elif not areas:
+    elif not areas and not given:
         boxes += boxes_of_tile((0, 0, 0), zooms)
     return boxes
 
@@ -128,7 +132,7 @@ def extract(words):
     areas = [name for name in ('--bbox', '--tile', '--minzoom', '--maxzoom') if name in options]
     if len(places) < 2 or not all(re.fullmatch(BOX, word) for word in given) or not (given or areas):
         fail(2, USAGE)
-    lines = [' '.join(map(str, box)) for box in (boxes_of(options) if areas else [])] + given
+    lines = [' '.join(map(str, box)) for box in (boxes_of(options, given) if areas else [])] + given
     if len(lines) > MOST:
         fail(2, f'these are more than {MOST} boxes, a box a zoom; give fewer, or fewer zooms by --minzoom and --maxzoom')
     more = ['--overwrite'] if '--overwrite' in options else []

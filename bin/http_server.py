@@ -43,8 +43,8 @@ class Handler(http.server.BaseHTTPRequestHandler):
     wbufsize = -1
 
     def parse_request(self):
-        """Reads the head of a request, and its body, which would be taken for the next request otherwise. Where it isn't
-        read the connection ends."""
+        """Reads the head of a request, and its body, which would be taken for the next request otherwise. Where it
+        isn't read the connection ends."""
         if not super().parse_request():
             return False
         status, words = self.drop_body()

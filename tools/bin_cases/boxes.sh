@@ -49,6 +49,19 @@ if command -v python3 >/dev/null; then
     extracts 5461 0 30 --bbox -180,-90,180,90 -- -180,-90,180,90
     extracts 85 0 3 --maxzoom 3 --
     extracts 1 0 0 --maxzoom 0 --bbox 1,1,1,1 -- 1,1,1,1
+    # boxes of columns and rows beside zooms, which bring no tile of another place
+    for words in "--minzoom 2" "--maxzoom 3" "--minzoom 3 --maxzoom 3"; do
+        # shellcheck disable=SC2086
+        run "$fatyngu" extract "$wide" part.pmtiles --overwrite $words '3 2 1 4 3'
+        status 0
+        run "$fatyngu" show part.pmtiles --entries
+        holds [ "$(cut -d' ' -f2 out | sort | tr '\n' ' ')" = '3/2/1 3/2/2 3/2/3 3/3/1 3/3/2 3/3/3 3/4/1 3/4/2 3/4/3 ' ]
+        cp part.pmtiles first.pmtiles
+        # shellcheck disable=SC2086
+        run "$fatyngu" extract "$wide" part.pmtiles '3 2 1 4 3' $words --overwrite
+        status 0
+        holds cmp -s first.pmtiles part.pmtiles
+    done
     # a tile and its descendants, which have the same archive by the other words
     run "$fatyngu" extract "$wide" part.pmtiles --tile 2/1/1 --minzoom 1 --overwrite
     status 0
@@ -91,6 +104,8 @@ if command -v python3 >/dev/null; then
     refuses --bbox 1,2,3,4 --minzoom 5 --maxzoom 4 -- '--minzoom 5 is above --maxzoom 4; give'
     refuses --bbox 1,2,3,4 --maxzoom 31 -- '--maxzoom 31: this is no zoom; give a number from 0 to 30'
     refuses --bbox 1,2,3,4 --minzoom x -- '--minzoom x: this is no zoom'
+    refuses --minzoom 4 '3 2 1 4 3' -- "the box '3 2 1 4 3' has none of the zooms 4 to 30"
+    refuses '3 2 1 4 3' --bbox 1,2,3,4 --maxzoom 2 -- "the box '3 2 1 4 3' has none of the zooms 0 to 2"
     refuses --tile 1/2/0 -- '--tile 1/2/0: this is no tile; give Z/X/Y'
     refuses --tile 31/0/0 -- 'this is no tile'
     refuses --tile 5/0/0 --maxzoom 4 -- 'its zoom is above --maxzoom 4'
