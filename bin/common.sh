@@ -62,11 +62,17 @@ leads_to_stream() (
     return 1
 )
 
-# refuse_stream STATUS OUT: ends where OUT is such a name, which a file that is put in its place would take from all
-# programs, while the stream gets nothing
-refuse_stream() {
+# is_set FILE: whether a file is a database of SQLite. A pipe isn't opened, which would wait for its writer.
+is_set() {
+    [ -f "$1" ] && [ "$(head -c 15 -- "$1" 2>/dev/null | tr -d '\0')" = 'SQLite format 3' ]
+}
+
+# refuse_place STATUS OUT: ends where OUT takes no archive. One in the place of a stream would take its name from all
+# programs, while the stream gets nothing; and a set is the last word where that of OUT was left out.
+refuse_place() {
     plain_path "$2"
     ! leads_to_stream "$plain" || fail "$1" "$2 is a stream; give the name of a file"
+    ! is_set "$plain" || fail "$1" "$2 is a set, which no archive replaces; give another name, or remove it first"
 }
 
 # put_in_place NEW OUT SHOWN: puts a file that is whole and synced at OUT, where nothing may be. With `overwrite` it

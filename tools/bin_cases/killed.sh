@@ -14,7 +14,7 @@ written_sets() {
 }
 # prepare PATH: what is at the path before a run: the set, where OUT is a set that is there, or else nothing
 prepare() {
-    rm -rf "$1" "$1".new "$1".*.new "$1.new-wal"
+    rm -rf "$1" "$1".new "$1.new-wal"
     case $1 in
     there.mbtiles) cp old.mbtiles there.mbtiles ;;
     there.pmtiles) head -c 5000 /dev/zero >there.pmtiles ;;
@@ -68,8 +68,8 @@ kills() {
         *.mbtiles) [ ! -e "$out" ] || holds [ "$("$real" "$out" 'pragma integrity_check')" = ok ] ;;
         esac
     done
-    # a run after one that was killed; plain gives what it makes a name of its own
-    rm -f "$out".*.new
+    # a run after one that was killed; plain makes what it makes in a folder of its own
+    rm -rf .pmtiles-plain.*
     case $out in
     there.*) : ;;
     *) rm -rf "$out" ;;

@@ -122,10 +122,37 @@ for path in $paths; do
 done
 holds [ -p pipe ]
 holds [ ! -e device -o -c device ]
-# links to files stay what they were for
-ln -s elsewhere.pmtiles file
-run "$fatyngu" convert --overwrite a.mbtiles file
-[ "$got" = 0 ] && holds same file a.mbtiles
+# links that lead to files are no streams
+run "$fatyngu" convert a.mbtiles made.pmtiles
+ln -s made.pmtiles file
+run "$fatyngu" convert --overwrite a.mbtiles ./file
+status 0
+holds same file a.mbtiles
+ends
+
+fresh 'an archive in the place of a set'
+set_of a.mbtiles "$three"
+cp a.mbtiles b.mbtiles
+ln -s b.mbtiles link
+for path in b.mbtiles link; do
+    for words in 'convert --overwrite a.mbtiles' 'convert --overwrite --by-script a.mbtiles' 'convert --force --overwrite a.mbtiles a.mbtiles' \
+        "join --overwrite $one_tile"; do
+        # shellcheck disable=SC2086
+        run "$fatyngu" $words $path
+        status 1
+        says ": $path is a set, which no archive replaces"
+    done
+    run "$fatyngu" extract "$one_tile" $path '0 0 0 0 0' --overwrite
+    status 1
+    says ": $path is a set"
+    if command -v python3 >/dev/null; then
+        run "$fatyngu" plain --overwrite --no-verify "$one_tile" $path
+        status 6
+        says ": $path is a set"
+    fi
+done
+holds cmp -s a.mbtiles b.mbtiles
+holds [ -L link ]
 ends
 
 if command -v python3 >/dev/null; then
