@@ -49,7 +49,9 @@ runpy.run_path(sys.argv[0], run_name="__main__")'
 # links
 leads_to_stream() (
     path=$1
-    for _ in $(seq 40); do
+    left=40
+    while [ $left -gt 0 ]; do
+        left=$((left - 1))
         case $(readlink -f "${path%/*}/.") in /proc/*) return 0 ;; esac
         [ -L "$path" ] || return 1
         to=$(readlink "$path" && echo .)

@@ -250,6 +250,11 @@ status 0
 says '^fatyngu: tree/: 21 entries are passed over, which are no files ZOOM/COLUMN/ROW.EXTENSION in numbers: .* and 16 more$'
 holds [ "$(wc -l <err)" = 1 ]
 holds [ "$(tiles_of made.mbtiles)" = "$(tiles_of plain.mbtiles)" ]
+# a find that can't tell
+instead find <<<'exit 1'
+run env PATH="$t/path:$PATH" "$fatyngu" pack tree made.mbtiles --strict
+status 1
+says "is refused by --strict: what is passed over can't be told, since the command find has no -printf"
 run "$fatyngu" pack tree made.mbtiles
 status 1
 says 'made.mbtiles is there'
