@@ -70,8 +70,10 @@ is_set() {
 }
 
 # refuse_place STATUS OUT: ends where OUT takes no archive. One in the place of a stream would take its name from all
-# programs, while the stream gets nothing; and a set is the last word where that of OUT was left out.
+# programs, while the stream gets nothing; a set is the last word where that of OUT was left out; and the file beside
+# one without a name would be .new, which may be there.
 refuse_place() {
+    [ -n "$2" ] || fail "$1" 'the name of the archive is empty; give the name of a file'
     plain_path "$2"
     ! leads_to_stream "$plain" || fail "$1" "$2 is a stream; give the name of a file"
     ! is_set "$plain" || fail "$1" "$2 is a set, which no archive replaces; give another name, or remove it first"

@@ -179,7 +179,8 @@ PYTHON
         env --default-signal setsid "$plain" --no-verify long.pmtiles to/made.pmtiles >out 2>err </dev/null &
         made=$!
         for _ in $(seq 200); do
-            nothing_in to || break
+            # the folder is there before Python is
+            [ -z "$(find to -type f)" ] || break
             sleep 0.1
         done
         kill -"${signal%:*}" -- -$made

@@ -153,6 +153,18 @@ for path in b.mbtiles link; do
 done
 holds cmp -s a.mbtiles b.mbtiles
 holds [ -L link ]
+# the name of a variable that has none
+echo mine >.new
+for words in 'convert a.mbtiles' 'convert --overwrite a.mbtiles' 'convert --by-script a.mbtiles' "join $one_tile" "join --overwrite $one_tile"; do
+    # shellcheck disable=SC2086
+    run "$fatyngu" $words ''
+    status 1
+    says 'the name of the archive is empty'
+done
+run "$fatyngu" extract "$one_tile" '' '0 0 0 0 0'
+status 1
+says 'the name of the archive is empty'
+holds [ "$(cat .new)" = mine ]
 ends
 
 if command -v python3 >/dev/null; then
