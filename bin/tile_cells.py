@@ -87,10 +87,11 @@ class Zoom:
 
 
 class Cells:
-    """The zooms that have tiles, by their numbers."""
+    """The zooms that have tiles, by their numbers, and how many tiles have an id beyond them."""
 
     def __init__(self):
         self.zooms = {}
+        self.outside = 0
 
     def add(self, z, x, y, level, length):
         """Adds a square of tiles of a zoom, as `Zoom.add` takes it."""
@@ -103,6 +104,7 @@ class Cells:
         while run > 0:
             z = ((3 * first + 1).bit_length() - 1) // 2
             if z > DEEPEST:
+                self.outside += run
                 return
             place = first - ((1 << 2 * z) - 1) // 3
             level = min((run.bit_length() - 1) // 2, z)
@@ -142,15 +144,20 @@ def is_set(path):
 
 
 def cells_of_entries(lines):
-    """The cells of an archive, from the lines of `fatyngu show --entries`."""
+    """The cells of an archive, from the lines of `fatyngu show --entries`. Tiles beyond the deepest zoom are told, and
+    left out. A line that is cut off is the last one of a program that ended, of which the caller sees the status."""
     cells = Cells()
     for line in lines:
+        if not line.endswith(b'\n'):
+            break
         first, place, run, _, length = line.split()
         if run == b'1' and place != b'-':
             z, x, y = place.split(b'/')
             cells.add(int(z), int(x), int(y), 0, int(length))
         else:
             cells.add_run(int(first), int(run), int(length))
+    if cells.outside:
+        say(f'{cells.outside} tiles with ids beyond zoom {DEEPEST} are left out')
     return cells
 
 

@@ -181,6 +181,13 @@ cp b.mbtiles $'caf\xe9.mbtiles'
 run "$fatyngu" show --map $'caf\xe9.mbtiles'
 status 0
 prints '^zoom 1: 3 tiles'
+# ids that are those of no zoom: the last tile of zoom 31, and a run of three behind it
+(cd "$top/tools" && python3 -B -c "import sys; from models import pmtiles as pm; last = (4 ** 32 - 1) // 3 - 1
+open(sys.argv[1], 'wb').write(pm.archive([(last + n, b'tile') for n in range(4)], b'{}', type=2, max_zoom=31)[0])" "$t/deep.pmtiles")
+run "$fatyngu" show --map deep.pmtiles
+status 0
+says '^fatyngu: 3 tiles with ids beyond zoom 31 are left out$'
+prints '^zoom 31: 1 tile, 4 bytes'
 for words in '--map' '--map a b' '--map --entries a.pmtiles' '--map --map a.pmtiles'; do
     # shellcheck disable=SC2086
     run "$fatyngu" show $words
