@@ -153,6 +153,12 @@ for path in b.mbtiles link; do
 done
 holds cmp -s a.mbtiles b.mbtiles
 holds [ -L link ]
+# words that name no place of an archive
+for words in 'join --help' 'join' "join $one_tile" 'join --max-tiles'; do
+    # shellcheck disable=SC2086
+    run "$fatyngu" $words
+    [ "$words" = 'join --help' ] && status 0 || status 2
+done
 # the name of a variable that has none
 echo mine >.new
 for words in 'convert a.mbtiles' 'convert --overwrite a.mbtiles' 'convert --by-script a.mbtiles' "join $one_tile" "join --overwrite $one_tile"; do
