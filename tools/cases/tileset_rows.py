@@ -10,21 +10,21 @@ as they are converted, tools/models/patches.py works on the rows of the tables, 
 """
 import os
 
-from cases.archives_again import adds_of, archive, tile_id
 from cases.rows import TOP
 from cases.set_scripts import (bad_rows, four_ways, QUERY, random_chains, refused_patches, refused_sets, removes_the_tile, verified_sets,
                                worked_patches, worked_sets)
 from cases.collided_streams import collided_streams
 from cases.measured_sets import again, measured
 from cases.odd_streams import odd_streams
+from cases.patched_digests import patched_digests
 from cases.patched_streams import patched_streams
+from cases.said_sets import says
 from cases.set_parts import parts
-from cases.streamed_sets import across_pages, hashes, options_said, says_of_itself, streams, streams_by_itself, told
-from cases.tileset_runs import ACROSS_ZOOMS, bad, base, case, CASES, escaped, FILE, FIVE, hindered, NO_TILE, ONE_TILE, run, shown, turned, views
+from cases.streamed_sets import across_pages, hashes, streams, streams_by_itself
+from cases.tileset_runs import ACROSS_ZOOMS, bad, base, case, CASES, FILE, FIVE, hindered, ONE_TILE, run, turned, views
 from cases.tileset_scripts import BAD_LINES, files, good_scripts, many_rows, many_tiles, media, on_file, other_objects, random_scripts, words_and_bulk
-from models.bases import base_after, spelled as rows_of, words as words_of
+from models.bases import base_after
 from models.scripts import parsed
-from models.sets import converted
 
 
 def sets():
@@ -64,44 +64,6 @@ def failing_objects():
         turned(script)
 
 
-def said(script, held=b""):
-    """A conversion over stores of a script's rows with the options that the set says of itself, whatever options of
-    an archive the script has."""
-    given = parsed(script.encode())
-    refusal, after = base_after(given)
-    rows = rows_of(after, escaped)
-    fields = ["said", escaped(script.encode()), held.hex()]
-    if held:
-        return case(fields, f"1|refused: medium not empty {len(held)}|{rows_of(words_of(given.stores[0]), escaped)}|{len(held)}|{shown(held, 64)}")
-    if refusal is not None:
-        return case(fields, f"1|{shown(b'refused: ' + refusal, 4000)}|{rows}|0|")
-    state = converted(given.stores, given.options["force"], given.options["verify"])
-    adds = adds_of(state.tiles)
-    whole, numbers = archive(options_said(state), adds)
-    found, numbers = dict(adds), dict(numbers)
-    answers = [found.get(tile_id(z, x, y)) for z, x, y in given.queries]
-    tiles = "".join(("none" if it is None else shown(it, 4000)) + " " for it in answers)
-    case(fields, f"{tiles}|0|{shown(told(state, numbers).encode(), 4000)}|{rows}|{len(whole)}|{shown(whole, 64)}")
-
-
-def says():
-    """What such conversions come to, and the same of other sets; then each call of their objects fails in turn."""
-    for script in says_of_itself():
-        said(script)
-    for scripts in [worked_sets, verified_sets, refused_sets, worked_patches, refused_patches, four_ways]:
-        for script in scripts():
-            if not isinstance(parsed(script.encode()), int):
-                said(script)
-    for script in random_chains(25, 40):
-        if not isinstance(parsed(script.encode()), int):
-            said(script)
-    for script, held in [(ONE_TILE, b"a"), ("base none\n", b"c"), (removes_the_tile(), b"PMTiles")]:
-        said(script, held)
-    for script in [ONE_TILE, NO_TILE, removes_the_tile(), *four_ways()]:
-        if base_after(parsed(script.encode()))[0] is None:
-            hindered(script, "hindered-said")
-
-
 def asks():
     """Words and files."""
     for words, wanted in [([], "none"), (["a"], "none"), (["a", "b"], "2"), (["a", "b", "c"], "3"), (["--force", "a", "b"], "force 2"), (["--verify", "a", "b"], "verify 2"),
@@ -134,6 +96,7 @@ def main():
     streams_by_itself()
     patched_streams()
     collided_streams()
+    patched_digests()
     parts()
     again()
     odd_streams()
