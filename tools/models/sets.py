@@ -74,6 +74,14 @@ class ScriptStore:
     def rows(self, name):
         return sorted(self.tables[name], key=lambda row: [order(cell) for cell in row[:TABLES[name][1]]])
 
+    def described_as(self, layout):
+        """What the store shows where it describes another layout: rows stand in the tables that both have, those of its
+        other tables are gone, and a table that the other layout alone has is empty."""
+        shown = ScriptStore(layout)
+        for name in shown.tables.keys() & self.tables.keys():
+            shown.tables[name], shown.keys[name] = self.tables[name], self.keys[name]
+        return shown
+
 
 def digest(algorithm, data):
     return hashes.digest(algorithm.decode(), data).encode()
