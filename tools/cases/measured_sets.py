@@ -1,10 +1,11 @@
 """Cases of stores that are filled with tiles made of numbers, and of conversions that are made twice over the same stores."""
 from cases.archives_again import adds_of, archive
+from cases.collided_streams import hindered_chains
 from cases.patched_streams import APART
 from cases.set_scripts import chain, GOOD_LAYOUTS, named, PATCHED, store, text
 from cases.streamed_sets import options_said
 from cases.tileset_runs import case, escaped, shown
-from models.bases import base_after, spelled as rows_of, words as words_of
+from models.bases import spelled as rows_of, words as words_of
 from models.scripts import defaults, parsed
 from models.sets import converted
 
@@ -76,3 +77,6 @@ def again():
         for script in small_chains():
             twice(name, script)
     twice("hashed", text(store("base", "flat", APART), "query 0 0 0"))
+    # for both layouts, patches that put contents whose id stood for null, until no tile named it
+    for script in list(hindered_chains())[::2]:
+        twice("streamed", script)
