@@ -1,4 +1,4 @@
-"""Cases of conversions that hold no contents over media and stores that answer in other ways."""
+"""Cases of conversions over media and stores that answer in other ways, mostly of those that hold no contents."""
 from cases.archives_again import adds_of, archive
 from cases.set_scripts import chain, GOOD_LAYOUTS, named, removes_the_tile, store, text
 from cases.tileset_runs import case, escaped, FIVE, NO_TILE, ONE_TILE, shown, turned
@@ -24,13 +24,15 @@ def patched():
     return text("option force", store("base", "normalized", {(0, 0, 0): b"0", (1, 0, 0): b"11"}), store("patch", "flat", {(1, 0, 1): b"1"}), "query 0 0 0", "query 1 0 0")
 
 
-def redescribed(script, other):
-    """A conversion over a store that first describes the tables of another layout. It is described once, so that the
-    set is what the store shows by that description."""
+def redescribed(script, other, name="redescribed"):
+    """A conversion over a store that first describes the tables of another layout, and takes no commit. It is described
+    once, so that the set is what the store shows by that description."""
     given = parsed(script.encode())
     given.stores[0] = given.stores[0].described_as(other)
     refusal, _ = base_after(given)
-    fields = ["redescribed", escaped(script.encode()), escaped(f"base {other}\n".encode())]
+    if refusal is None and name == "redescribed-whole" and len(given.stores) > 1:
+        refusal = b"OutOfMemory"
+    fields = [name, escaped(script.encode()), escaped(f"base {other}\n".encode())]
     if refusal is not None:
         return case(fields, f"1|{shown(b'refused: ' + refusal, 4000)}|0|")
     state = converted(given.stores, given.options["force"], given.options["verify"])
@@ -64,10 +66,11 @@ def verified(layout):
     return text("option verify", store("base", layout, TILES, named(agg_tiles_hash=right)), "query 1 0 1")
 
 
-def further_layouts():
-    """Further layouts, without patches and with them: rows that stand, and a hash that is verified; a wrong digest that
-    goes with its row; rows that stand without their index; a hash of tiles that are gone; rows that stand and are
-    patched; an algorithm that stands; null that stands under the id of a patch's contents."""
+def redescribed_both_ways():
+    """Further layouts, without patches and with them, by the conversion that holds no contents and by the one that
+    holds all: rows that stand, and a hash that is verified; a wrong digest that goes with its row; rows that stand
+    without their index; a hash of tiles that are gone; rows that stand and are patched; an algorithm that stands; null
+    that stands under the id of a patch's contents."""
     wrong = text(store("base", "flat-with-hash", TILES)).replace("i1 i0 i0 x3131", "i1 i0 i0 x3132")
     digested = store("base", "normalized", TILES, named(hash_algorithm=b"xxh3"), b"xxh3")
     chained = {layout: text(store("base", layout, TILES, named(agg_tiles_hash=b"A")), PATCH)
@@ -78,9 +81,10 @@ def further_layouts():
                           (text("option force", digested, PATCH), "flat-with-hash"),
                           (COLLIDES, "normalized-with-view")]:
         redescribed(script, other)
+        redescribed(script, other, "redescribed-whole")
 
 
 def odd_streams():
     odd_media()
     redescribed_bases()
-    further_layouts()
+    redescribed_both_ways()

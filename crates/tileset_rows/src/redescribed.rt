@@ -1,4 +1,4 @@
-// Conversions that hold no contents, over a store that first describes the tables of another layout.
+// Conversions over a store that first describes the tables of another layout, and takes no commit.
 use crate::answers::said_outcome;
 use crate::fields::{Fields, bytes_of};
 use crate::said::say_medium;
@@ -86,9 +86,10 @@ fn say_redescribed(
     out: &mut String,
     script: ParsedScript,
     other: MemStore,
+    options: Options,
 ) -> Option<()> {
     let ParsedScript {
-        options,
+        options: given,
         base: store,
         mut patches,
         queries,
@@ -104,8 +105,8 @@ fn say_redescribed(
         &mut store,
         &mut patches,
         queries.as_slice(),
-        &options_of(options),
-        Options::Streamed,
+        &options_of(given),
+        options,
         &mut medium,
     );
     match answer {
@@ -116,7 +117,12 @@ fn say_redescribed(
 }
 
 /// A case of a script, and of another one whose base is described first: how the conversion ends, and the archive.
-pub fn answer(alloc: Global, out: &mut String, fields: &mut Fields) -> Option<()> {
+pub fn answer(
+    alloc: Global,
+    out: &mut String,
+    fields: &mut Fields,
+    options: Options,
+) -> Option<()> {
     let script = bytes_of(alloc, fields.next())?;
     let other = bytes_of(alloc, fields.next())?;
     let ParsedScript {
@@ -126,5 +132,5 @@ pub fn answer(alloc: Global, out: &mut String, fields: &mut Fields) -> Option<()
         queries: _,
     } = script_of(alloc, other.as_slice())?;
     let script = script_of(alloc, script.as_slice())?;
-    say_redescribed(alloc, out, script, other)
+    say_redescribed(alloc, out, script, other, options)
 }
