@@ -48,7 +48,3 @@ first_taken t rest a known put = option_map (digest a) (find (is_taken t rest a 
 -- The digest that a refusal of bytes that are put names: the first one, where contents stand under their digests.
 abbrev pub collided : Tables → Rest → HashAlgorithm → Option (List ℕ) → List (List ℕ) → Option (List ℕ)
 collided t rest a known put = cond (has_digests rest.layout) (option_or (first_taken t rest a known put) known) known
-
--- the digest of the contents of a tile, where they are such bytes
-abbrev pub taken_at : Tables → Rest → HashAlgorithm → Option (List ℕ) → Option (List ℕ) → Option (List ℕ)
-taken_at t rest a known bytes = option_and_then (λ b. cond (is_taken t rest a known b) (Some (digest a b)) None) bytes

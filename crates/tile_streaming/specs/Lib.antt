@@ -20,3 +20,4 @@ pub mod Part
 pub mod PatchedSet
 pub mod Patching
 pub mod Stored
+pub mod Suspects

@@ -33,6 +33,7 @@ mod seen_rows;
 mod sizing;
 mod spots;
 mod streaming;
+mod unnamed;
 mod verifying;
 mod writing;
 

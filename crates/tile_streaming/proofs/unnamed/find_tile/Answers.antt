@@ -2,7 +2,7 @@ use Rattle.tile_streaming.proofs.Common.{ap, Coord, find, has_key, place_at, til
 use Rattle.mb_tables.specs.declared.key.RowKey.{RowKey}
 use Rattle.mb_tables.specs.declared.table.TableName.{TableName}
 use Rattle.tile_streaming.proofs.KeyLemmas.{coord_is}
-use Rattle.tile_streaming.proofs.collisions.find_tile.Goals as goal
+use Rattle.tile_streaming.proofs.unnamed.find_tile.Goals as goal
 
 pub returns-clause-answer : goal.returns-clause-answer
 returns-clause-answer g c = λ t.
