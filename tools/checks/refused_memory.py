@@ -78,6 +78,7 @@ LINES = {
     'streamed_from_each_layout': ('tileset_rows', twice('streamed|option verify', LAYOUTS), 'convert_streamed read_marks'),
     'streamed_as_each_says': ('tileset_rows', twice('streamed-said|option verify', LAYOUTS), 'convert_streamed read_marks StreamOptions::made_for_marked'),
     'patched_from_each_layout': ('tileset_rows', twice('hashed|', PATCHED), 'convert_patched read_marks'),
+    'patched_over_other_contents': ('tileset_rows', twice('streamed|option force', PATCHED[2:]), 'convert_patched'),
     'patched_as_each_says': ('tileset_rows', twice('streamed-said|', PATCHED), 'convert_patched read_marks StreamOptions::made_for_marked'),
     'served': ('archive_rows', [('serve lines 4 100', 1, 2)], 'TileServer::open TileServer::answer'),
     'extracted': ('archive_rows', [('extract from 0 run 0', 1, 4)], 'run_extract extract'),
