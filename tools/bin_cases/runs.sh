@@ -3,16 +3,7 @@
 
 program=$here/crates/mbtiles_to_pmtiles_program/out/mbtiles_to_pmtiles_program
 many="with recursive n(v) as (values (0) union all select v + 1 from n where v < 19999) insert into tiles select 8, v % 256, v / 256, randomblob(600) from n"
-# waits until a file is there, or a process is gone
-wait_for() {
-    for _ in $(seq 2000); do
-        [ ! -e "$1" ] || return 0
-        is_gone "$2" && return 1
-        sleep 0.005
-    done
-}
-
-# the same until a process holds the file's lock, which it takes behind the making of the file
+# wait_for_lock FILE PROCESS: waits until the process holds the file's lock, which it takes once it made the file
 wait_for_lock() {
     wait_for "$1" "$2" || return 1
     for _ in $(seq 2000); do
@@ -21,6 +12,7 @@ wait_for_lock() {
         is_gone "$2" && return 1
         sleep 0.005
     done
+    false
 }
 
 fresh 'what a stopped run left is made anew'

@@ -1,5 +1,6 @@
 mod Common
 pub mod AddingLemmas
+pub mod AgreementLemmas
 pub mod CutOutLemmas
 pub mod DueLemmas
 pub mod HashLemmas

@@ -1,4 +1,5 @@
 pub mod Adding
+pub mod Agreement
 pub mod Collisions
 pub mod Common
 pub mod Contents
