@@ -1,7 +1,9 @@
 mod CatalogLemmas
+mod ColumnLemmas
 mod CursorLemmas
 mod FaultLemmas
 mod FindLemmas
+mod HeldLemmas
 mod KeyLemmas
 mod MarkLemmas
 mod MetadataLemmas
@@ -11,6 +13,7 @@ mod OpenedLemmas
 mod OpeningLemmas
 mod OrderLemmas
 mod PageLemmas
+mod PartsLemmas
 mod RecordLemmas
 mod RowLemmas
 mod ScanLemmas

@@ -23,11 +23,11 @@ use Rattle.mb_tables.specs.declared.cell.Cell.{Cell}
 use Rattle.mb_tables.specs.declared.kind.MbtType.TheVariants.{Flat}
 use Rattle.mb_tables.specs.declared.table.TableName.{TableName}
 use Rattle.mb_tables.specs.declared.table.TableName.TheVariants.{Metadata}
-use Rattle.mb_file.specs.Columns.{AreColumnsBy}
+use Rattle.mb_file.specs.Columns.{AreColumnsBy, HasRowids}
 use Rattle.mb_file.specs.Course.{IsIn, left_in, Passed, row_in}
 use Rattle.mb_file.specs.Cursor.{Stored}
 use Rattle.mb_file.specs.FilePages.{GoesOn, IsTrusted, pages_of}
-use Rattle.mb_file.specs.Metadata.{AreNames, AreNamesOf, Fills, name_in, named_value, names_in, spelling, text_or_null, three_of}
+use Rattle.mb_file.specs.Metadata.{AreNames, Fills, name_in, named_value, names_in, spelling, text_or_null, three_of}
 use Rattle.mb_file.specs.Record.{value_in, values_in}
 use Rattle.mb_file.specs.Standing.{HoldsNames}
 use Rattle.mb_file.specs.declared.catalog.Listed.{Listed}
@@ -131,14 +131,15 @@ module _ {D : Type 0} {g : Ghosts D} (early mid late : FilePages D g) (root : �
 module _ {D : Type 0} {g : Ghosts D} (early mid late : FilePages D g) (kept : GoesOn early mid) (same : pages_of mid ≡ pages_of early) (listed : Listed) (columns : Columns) where
   -- the rows of a table that was tested, once they are read
   pub names_read : (marks tested : List Bool) (first before after : Read) (result : Result (Unit {0}) FileError) → (columns.key ≡ None → AreColumnsBy Metadata listed.text.items columns)
-      → (columns.key ≡ None → IsChecked (pages_of early) marks tested (λ layout. (rows : List Stored) × IsTable early.usable layout listed.root rows × Each (λ row. strict.IsRecord row.1) rows))
+      → (HasRowids listed.text.items → columns.key ≡ None) → (columns.key ≡ None → IsChecked (pages_of early) marks tested (λ layout. (rows : List Stored) × IsTable early.usable layout listed.root rows × Each (λ row. strict.IsRecord row.1) rows))
       → first ≡ before → Fills mid late listed.root columns first after result → IsTrusted late
       → OnOk result (AreNames early.usable (pages_of early) (Some listed) before after)
-  names_read marks tested first before after (Err e) made checked is fills trusted = tt
-  names_read marks tested first before after (Ok a) made checked is fills trusted = (
-    columns,
-    λ rowids.
-        let there = checked rowids in record {
+  names_read marks tested first before after (Err e) made has checked is fills trusted = tt
+  names_read marks tested first before after (Ok a) made has checked is fills trusted = λ own.
+      let rowids = has own in
+      let there = checked rowids in (
+        columns,
+        record {
           made = made rowids;
           layout = there.layout;
           rows = there.fact.0;
@@ -147,4 +148,4 @@ module _ {D : Type 0} {g : Ghosts D} (early mid late : FilePages D g) (kept : Go
           read = subst₂ (λ (u : ℕ) (p : PageMap). IsLaidIn there.layout p → IsTable u there.layout listed.root there.fact.0 → after ≡ read_on Metadata first (names_in columns there.fact.0))
               kept.same_size same (fills trusted rowids there.layout there.fact.0) there.laid there.fact.1 ∙ ap (λ (x : Read). read_on Metadata x (names_in columns there.fact.0)) is;
         },
-  )
+      )

@@ -133,11 +133,13 @@ module _ {D : Type 0} {g : Ghosts D} where
       reads_set old new (same_but old mid new layout source names tiles contents same) is_true (subst (λ (f : Faults). f.count ≤ new.faults.count) stood later)
 
   -- of disks whose answers are true none was wrong
+  pub trusted_by : ((disk : D) → IsTrue (g.is_clean disk)) → (pages : FilePages D g) → IsTrusted pages
+  unfolding doubt
+  trusted_by clean pages = subst (λ (b : Bool). doubt b ≡ 0) (sym (and_from _ _ (clean (files pages.pager).0) (clean (files pages.pager).1))) refl
+
   pub trusted : (is_true : Bool) → ((disk : D) → is_true ≡ true → IsTrue (g.is_clean disk)) → (set : FileSet D g) → tells_by_set is_true set ≡ true → (pages : FilePages D g) → IsTrusted pages
-  unfolding doubt tells_by_set
-  trusted is_true clean set tells pages =
-      let is = (and_parts is_true (may_be_told set) tells).0 in
-      subst (λ (b : Bool). doubt b ≡ 0) (sym (and_from _ _ (clean (files pages.pager).0 is) (clean (files pages.pager).1 is))) refl
+  unfolding tells_by_set
+  trusted is_true clean set tells pages = trusted_by (λ disk. clean disk (and_parts is_true (may_be_told set) tells).0) pages
 
   pub may_by : (is_true : Bool) (set : FileSet D g) → tells_by_set is_true set ≡ true → may_be_told set ≡ true
   unfolding tells_by_set

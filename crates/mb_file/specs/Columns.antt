@@ -73,6 +73,10 @@ abbrev pub IsDefined : List ℕ → Option Table → Type 0
 IsDefined text None = (e : CompileError) × (table_defined_by text ≡ Err e)
 IsDefined text (Some made) = table_defined_by text ≡ Ok made
 
+-- a table has rowids where the kit understands the whole text that makes it
+abbrev pub HasRowids : List ℕ → Type 0
+HasRowids text = (made : Table) × (table_defined_by text ≡ Ok made)
+
 -- the columns of a set's table by the text that makes it, where it has rowids
 pub record AreColumnsBy (table : TableName) (text : List ℕ) (columns : Columns) : Type 0 where
   pub made : Table

@@ -5,6 +5,7 @@ pub mod Cursor
 pub mod Errors
 pub mod Faults
 pub mod FilePages
+pub mod Held
 pub mod KeyOrder
 pub mod Listing
 pub mod Metadata
@@ -12,6 +13,7 @@ pub mod Noted
 pub mod Numbers
 pub mod Opened
 pub mod Opening
+pub mod Parts
 pub mod Record
 pub mod Recovered
 pub mod RowAt

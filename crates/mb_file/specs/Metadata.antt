@@ -19,7 +19,7 @@ use Rattle.mb_tables.specs.Schema.{set_tables}
 use Rattle.mb_tables.specs.Table.{Tables}
 use Rattle.mb_tables.specs.declared.kind.MbtType.TheVariants.{Flat}
 use Rattle.mb_tables.specs.declared.table.TableName.TheVariants.{Metadata}
-use Rattle.mb_file.specs.Columns.{AreColumnsBy}
+use Rattle.mb_file.specs.Columns.{AreColumnsBy, HasRowids}
 use Rattle.mb_file.specs.Cursor.{Stored}
 use Rattle.mb_file.specs.FilePages.{IsTrusted, pages_of}
 use Rattle.mb_file.specs.Record.{value_in}
@@ -79,4 +79,4 @@ pub record AreNamesOf (usable : ℕ) (pages : PageMap) (listed : Listed) (column
 -- what is read of a table that is listed; of one WITHOUT ROWID nothing is told
 abbrev pub AreNames : ℕ → PageMap → Option Listed → Read → Read → Type 0
 AreNames usable pages None before after = after ≡ before
-AreNames usable pages (Some listed) before after = (columns : Columns) × (columns.key ≡ None → AreNamesOf usable pages listed columns before after)
+AreNames usable pages (Some listed) before after = HasRowids listed.text.items → (columns : Columns) × AreNamesOf usable pages listed columns before after

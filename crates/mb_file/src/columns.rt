@@ -1,7 +1,7 @@
 // Where a table has the columns of its set.
 ghost use Rattle.std.specs.Prelude.{◌≡◌, IfOk, IfSome, None, Ok, map};
 ghost use Rattle.sqlite_resolve.specs.Compile.{table_defined_by};
-ghost use Rattle.mb_file.specs.Columns.{AreColumns, AreColumnsBy, IsDefined, IsNumbered, column_at, column_of, key_columns, names_of};
+ghost use Rattle.mb_file.specs.Columns.{AreColumns, AreColumnsBy, HasRowids, IsDefined, IsNumbered, column_at, column_of, key_columns, names_of};
 
 use crate::FileError;
 use crate::keyed::{before_without_rowid, key_of, place_in_record};
@@ -161,7 +161,9 @@ fn keyed(alloc: Global, table: TableName, text: &[u8]) -> Result<Option<Made>, F
 
 // The table that a text makes.
 fn made_by(alloc: Global, table: TableName, text: &[u8]) -> Result<Made, FileError>
-    ensures { IfOk result (λ made. made.key ≡ None → table_defined_by text.now ≡ Ok made.table) }
+    ensures made { IfOk result
+        (λ made. made.key ≡ None → table_defined_by text.now ≡ Ok made.table) }
+    ensures rowids { IfOk result (λ made. HasRowids text.now → made.key ≡ None) }
 {
     if let Some(made) = defined(alloc, text)? {
         return Ok(Made {
@@ -200,6 +202,7 @@ fn columns_of(alloc: Global, table: TableName, made: &Made) -> Result<Columns, F
 pub(crate) fn columns_by(alloc: Global, table: TableName, text: &[u8]) -> Result<Columns, FileError>
     ensures columns { IfOk result
         (λ columns. columns.key ≡ None → AreColumnsBy table text.now columns) }
+    ensures rowids { IfOk result (λ columns. HasRowids text.now → columns.key ≡ None) }
 {
     let made = made_by(alloc, table, text)?;
     columns_of(alloc, table, &made)

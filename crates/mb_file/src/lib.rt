@@ -14,6 +14,7 @@ mod index_cell;
 mod key_order;
 mod keyed;
 mod listing;
+mod memory;
 mod metadata;
 mod numbers;
 mod opening;

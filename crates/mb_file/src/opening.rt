@@ -1,10 +1,16 @@
 // The parts of a set: its layout, its tables and its metadata, by the catalog.
-ghost use Rattle.std.specs.Prelude.{◌≡◌, IfOk, IfSome};
+ghost use Rattle.std.specs.Prelude.{◌≡◌, IfOk, IfSome, map};
 ghost use Rattle.std.specs.Option.{option_map};
+ghost use Rattle.mb_store.specs.MemStore.{told_of};
 ghost use Rattle.mb_tables.specs.Kind.{contents_of, schema_of};
 ghost use Rattle.sqlite_btree.specs.Check.{KeepsMarks, MarksFree};
+ghost use Rattle.mb_file.specs.Catalog.{entry_of};
 ghost use Rattle.mb_file.specs.FilePages.{GoesOn, IsTrusted, pages_of};
+ghost use Rattle.mb_file.specs.Held.{HoldsMetadata};
+ghost use Rattle.mb_file.specs.Opened.{AreOf};
 ghost use Rattle.mb_file.specs.Opening.{AreOpened, IsOpened};
+ghost use Rattle.mb_file.specs.Parts.{AreParts, HoldsParts, IsPlaced};
+ghost use Rattle.mb_file.specs.Recovered.{image_of};
 ghost use Rattle.mb_file.specs.Standing.{AreOfLayout, HoldsNames};
 
 use crate::FileError;
@@ -32,6 +38,7 @@ fn listing<D: Disk>(
     ensures opened { IsTrusted source.new.pages
         → MarksFree source.old.taken.items (pages_of source.old.pages)
         → IfOk result (IsOpened source.old.pages.usable (pages_of source.old.pages)) }
+    ensures found { IfOk result (IsPlaced (map entry_of catalog.now.tables.items)) }
     ensures table { IfOk result (λ listing. listing.table ≡ table) }
     ensures marks { KeepsMarks source.old.taken.items source.new.taken.items }
     ensures kept { GoesOn source.old.pages source.new.pages }
@@ -61,6 +68,8 @@ fn contents<D: Disk>(
         → MarksFree source.old.taken.items (pages_of source.old.pages)
         → IfOk result (λ listing. IfSome listing
         (IsOpened source.old.pages.usable (pages_of source.old.pages))) }
+    ensures found { IfOk result
+        (λ contents. IfSome contents (IsPlaced (map entry_of catalog.now.tables.items))) }
     ensures placed { IfOk result (λ contents. option_map (λ listing. listing.table) contents
         ≡ option_map contents_of (schema_of layout)) }
     ensures marks { KeepsMarks source.old.taken.items source.new.taken.items }
@@ -95,6 +104,11 @@ fn tables<D: Disk>(
         → IfOk result (AreOpened source.old.pages.usable (pages_of source.old.pages)) }
     ensures placed { IfOk result
         (λ parts. AreOfLayout parts.layout parts.tiles parts.contents) }
+    ensures layout { IfOk result (λ parts. parts.layout ≡ layout) }
+    ensures found { IfOk result
+        (λ parts. IsPlaced (map entry_of catalog.now.tables.items) parts.tiles) }
+    ensures beside { IfOk result
+        (λ parts. IfSome parts.contents (IsPlaced (map entry_of catalog.now.tables.items))) }
     ensures names { IfOk result (λ parts. parts.names ≡ names) }
     ensures marks { KeepsMarks source.old.taken.items source.new.taken.items }
     ensures kept { GoesOn source.old.pages source.new.pages }
@@ -116,6 +130,11 @@ fn names<D: Disk>(
     source: &mut Source<D>,
     catalog: &Catalog,
 ) -> Result<MemStore, FileError>
+    ensures holds { IsTrusted source.new.pages
+        → MarksFree source.old.taken.items (pages_of source.old.pages)
+        → IfOk result (λ names. HoldsMetadata source.old.pages.usable
+        (pages_of source.old.pages) (map entry_of catalog.now.tables.items)
+        ((told_of names).rows TableName.Metadata)) }
     ensures metadata { IfOk result HoldsNames }
     ensures marks { KeepsMarks source.old.taken.items source.new.taken.items }
     ensures kept { GoesOn source.old.pages source.new.pages }
@@ -138,6 +157,10 @@ fn listed_parts<D: Disk>(
     ensures opened { IsTrusted source.new.pages
         → MarksFree source.old.taken.items (pages_of source.old.pages)
         → IfOk result (AreOpened source.old.pages.usable (pages_of source.old.pages)) }
+    ensures holds { IsTrusted source.new.pages
+        → MarksFree source.old.taken.items (pages_of source.old.pages)
+        → IfOk result (AreParts source.old.pages.usable (pages_of source.old.pages)
+        catalog.now.master.items (map entry_of catalog.now.tables.items)) }
     ensures placed { IfOk result
         (λ parts. AreOfLayout parts.layout parts.tiles parts.contents) }
     ensures metadata { IfOk result (λ parts. HoldsNames parts.names) }
@@ -157,6 +180,9 @@ pub(crate) fn read_parts<D: Disk>(alloc: Global, source: &mut Source<D>) -> Resu
     ensures opened { IsTrusted source.new.pages
         → MarksFree source.old.taken.items (pages_of source.old.pages)
         → IfOk result (AreOpened source.old.pages.usable (pages_of source.old.pages)) }
+    ensures holds { IsTrusted source.new.pages
+        → MarksFree source.old.taken.items (pages_of source.old.pages)
+        → IfOk result (HoldsParts source.old.pages.usable (pages_of source.old.pages)) }
     ensures placed { IfOk result
         (λ parts. AreOfLayout parts.layout parts.tiles parts.contents) }
     ensures metadata { IfOk result (λ parts. HoldsNames parts.names) }
@@ -178,6 +204,10 @@ pub(crate) fn open_parts<D: Disk + Drop>(
 ) -> Result<(Source<D>, Parts), FileError>
     ensures opened { IfOk result (λ read. IsTrusted read.0.pages
         → AreOpened read.0.pages.usable (pages_of read.0.pages) read.1) }
+    ensures found { IfOk result (λ read. IsTrusted read.0.pages
+        → AreOf (image_of D.Disk files) read.0.pages.usable (pages_of read.0.pages)) }
+    ensures holds { IfOk result (λ read. IsTrusted read.0.pages
+        → HoldsParts read.0.pages.usable (pages_of read.0.pages) read.1) }
     ensures placed { IfOk result
         (λ read. AreOfLayout read.1.layout read.1.tiles read.1.contents) }
     ensures metadata { IfOk result (λ read. HoldsNames read.1.names) }

@@ -4,8 +4,13 @@ ghost use Rattle.mb_store.specs.Kept.{FaultsCounted, Keeps, ReadsOnly};
 ghost use Rattle.mb_tables.specs.Key.{has_key};
 ghost use Rattle.mb_tables.specs.Schema.{set_tables};
 ghost use Rattle.mb_tables.specs.Table.{width};
-ghost use Rattle.mb_file.specs.FilePages.{IsTrusted};
+ghost use Rattle.sqlite_wal.specs.Recovery.{Image};
+ghost use Rattle.mb_file.specs.FilePages.{IsTrusted, pages_of};
+ghost use Rattle.mb_file.specs.Held.{HoldsTables};
 ghost use Rattle.mb_file.specs.Listing.{AreApart};
+ghost use Rattle.mb_file.specs.Opened.{AreOf};
+ghost use Rattle.mb_file.specs.Parts.{HoldsParts};
+ghost use Rattle.mb_file.specs.Recovered.{image_of};
 ghost use Rattle.mb_file.specs.Standing.{AllStand, AreOfLayout, HoldsNames, IsShown, rows_told};
 
 use crate::fault::Faults;
@@ -41,6 +46,8 @@ pub struct FileSet<D: Disk> {
 }
 
 impl<D: Disk + Drop> FileSet<D> {
+    ghost use Rattle.mb_file.specs.Told.{may_be_told, told_by_set};
+
     /// Opens the set of a file and its log, of whose pages so many are kept in memory. Nothing but the log is
     /// written. It reads the header, the catalog and the metadata, and tests that each table of the set is a sound
     /// tree, by a pass over its pages.
@@ -49,24 +56,32 @@ impl<D: Disk + Drop> FileSet<D> {
     /// of no known form; `Table` where a table is a view, or of a form that isn't read; `Column` where it lacks a
     /// column; `Encoding` where texts are in UTF-16; `Header` and `Damaged` where it isn't a sound database; `Unread`
     /// where the file can't be read.
-    pub fn open(
-        alloc: Global,
-        files: Files<D>,
-        cache_pages: usize,
-    ) -> Result<FileSet<D>, FileError> {
+    pub fn open(alloc: Global, files: Files<D>, cache_pages: usize) -> Result<FileSet<D>, FileError>
+        ensures found { IfOk result (λ set. IsTrusted set.source.pages → AreOf
+            (image_of D.Disk files) set.source.pages.usable (pages_of set.source.pages)) }
+        ensures holds { IfOk result (λ set. IsTrusted set.source.pages → may_be_told set ≡ true
+            → HoldsTables (image_of D.Disk files) (told_by_set set)) }
+        ensures unfailed { IfOk result (λ set. set.faults.count ≡ 0) }
+    {
         let (source, parts) = open_parts(alloc, files, cache_pages)?;
         Ok(FileSet::of_parts(alloc, source, parts))
     }
 }
 
 impl<D: Disk> FileSet<D> {
-    ghost use Rattle.mb_file.specs.Told.{IsSameSet};
+    ghost use Rattle.mb_file.specs.Told.{IsSameSet, may_be_told, told_by_set};
 
     // The set of its parts.
     fn of_parts(alloc: Global, source: Source<D>, parts: Parts) -> FileSet<D>
         requires stand { AllStand source parts.tiles parts.contents }
         requires placed { AreOfLayout parts.layout parts.tiles parts.contents }
         requires metadata { HoldsNames parts.names }
+        ensures source { result.source ≡ source }
+        ensures holds { (bytes : Image) → IsTrusted source.pages
+            → AreOf bytes source.pages.usable (pages_of source.pages)
+            → HoldsParts source.pages.usable (pages_of source.pages) parts
+            → may_be_told result ≡ true → HoldsTables bytes (told_by_set result) }
+        ensures unfailed { result.faults.count ≡ 0 }
     {
         let Parts {
             layout,

@@ -1,8 +1,8 @@
-use Rattle.std.proofs.Common.{ap, arith, OnOk, Option, subst, sym, true, ◌≡◌}
+use Rattle.std.proofs.Common.{ap, arith, OnOk, subst, sym, true, ◌≡◌}
 use Rattle.std.specs.Option.{option_copied}
 use Rattle.sqlite_btree.specs.Check.{is_marked}
 use Rattle.mb_tables.specs.declared.table.TableName.TheVariants.{Metadata}
-use Rattle.mb_file.specs.Columns.{AreColumnsBy}
+use Rattle.mb_file.specs.Columns.{AreColumnsBy, HasRowids}
 use Rattle.mb_file.specs.FilePages.{IsTrusted, pages_of}
 use Rattle.mb_file.specs.Metadata.{AreNames, held_in}
 use Rattle.mb_file.proofs.MetadataLemmas.{names_read}
@@ -17,7 +17,7 @@ returns-clause-read g c = λ trusted free.
     c.args.source.now.taken.items c.test_table.new.source.taken.items (held_in c.args.names.now c.test_table.new.source.left_out) (held_in c.args.names.now c.args.source.now.left_out)
     (held_in c.fill.new.names c.fill.new.source.left_out) c.fill.result
     (λ rowids. subst (λ t. AreColumnsBy Metadata t c.in_ok-columns.columns) c.as_slice.ensures.value (c.in_ok-columns.ensures.columns rowids))
-    (λ rowids. c.in_ok-test_table.ensures.sound rowids clean free)
+    (λ own. c.in_ok-columns.ensures.rowids (subst HasRowids (sym c.as_slice.ensures.value) own)) (λ rowids. c.in_ok-test_table.ensures.sound rowids clean free)
     (ap (λ s. held_in c.args.names.now s.left_out) c.test_table.ensures.same) c.fill.ensures.read trusted)
 
 pub returns-clause-marks : goal.returns-clause-marks
