@@ -1,8 +1,7 @@
 // Sets that are read by the pages of a file whose bytes a line has.
-use crate::paged::{FAULT, say_files, say_set};
+use crate::paged::{FAULT, say_opened, say_set};
 use mb_file::FileSet;
 use rows_shared::{Words, bytes};
-use sqlite_disk::{Disk, Files, Memory};
 use std::alloc::Global;
 use std::fmt::Write;
 use tile_hash::HashAlgorithm;
@@ -10,25 +9,14 @@ use tile_hash::HashAlgorithm;
 // The first byte that is changed, behind the header.
 const FIRST: usize = 100;
 
-// A file of these bytes, without a log.
-fn files_with(alloc: Global, bytes: &[u8]) -> Option<Files<Memory>> {
-    let mut db = Memory::new(alloc);
-    db.write_at(0, bytes).ok()?;
-    Some(Files {
-        log: Memory::new(alloc),
-        db,
-    })
-}
-
 pub fn answer(alloc: Global, out: &mut String, words: &mut Words) -> Option<()> {
     let bytes = bytes(alloc, words)?;
-    let files = files_with(alloc, bytes.as_slice())?;
-    say_files(alloc, out, files)
+    say_opened(alloc, out, FileSet::of_bytes(alloc, bytes.as_slice(), 8))
 }
 
 // What a file of these bytes is read as, None where it is refused or can't be read.
 fn said_of(alloc: Global, bytes: &[u8]) -> Option<String> {
-    let set = FileSet::open(alloc, files_with(alloc, bytes)?, 8).ok()?;
+    let set = FileSet::of_bytes(alloc, bytes, 8).ok()?;
     let mut said = String::new(alloc);
     say_set(alloc, &mut said, set)?;
     if said.as_str() == FAULT {

@@ -83,9 +83,13 @@ fn word_of(error: FileError) -> &'static str {
     }
 }
 
-/// Appends what a set of files is read as, or the word of its refusal.
-pub fn say_files(alloc: Global, out: &mut String, files: Files<Memory>) -> Option<()> {
-    match FileSet::open(alloc, files, 8) {
+/// Appends what a set that was opened is read as, or the word of its refusal.
+pub fn say_opened(
+    alloc: Global,
+    out: &mut String,
+    opened: Result<FileSet<Memory>, FileError>,
+) -> Option<()> {
+    match opened {
         Ok(set) => say_set(alloc, out, set),
         Err(error) => {
             let word = word_of(error);
@@ -96,5 +100,5 @@ pub fn say_files(alloc: Global, out: &mut String, files: Files<Memory>) -> Optio
 
 pub fn answer(alloc: Global, out: &mut String, words: &mut Words) -> Option<()> {
     let files = files_of(alloc, words)?;
-    say_files(alloc, out, files)
+    say_opened(alloc, out, FileSet::open(alloc, files, 8))
 }
